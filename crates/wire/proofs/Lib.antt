@@ -1,0 +1,5 @@
+pub mod Bytes
+pub mod Cases
+pub mod Fields
+pub mod Front
+pub mod Store
