@@ -43,26 +43,26 @@ zeroed-is d k =
     let m : min (length (zeros d k)) (length d - k) ≡ length d - k = simp length-replicate (omega arith) in
     ap (paste d k (zeros d k)) m
     ∙ rw (take-all (length d - k) (zeros d k) (simp length-replicate (omega arith)), drop-of-length-le d {i = k + (length d - k)} (omega arith))
-      (append-nil (take k d ++ zeros d k))
+    (append-nil (take k d ++ zeros d k))
 
 -- bytes laid at the front of a buffer, and the rest as it was
 front-is : (d b : List ℕ) → laid d 0 b ≡ take (length d) b ++ drop (length b) d
 front-is d b =
     by (leb (length b) (length d))
     (λ e. let h : length b ≤ length d = leb-true _ _ e in
-        let m : min (length b) (length d - 0) ≡ length b = omega arith in
-        rw (m, take-length b, take-all (length d) b h, zero-add (length b)))
+    let m : min (length b) (length d - 0) ≡ length b = omega arith in
+    rw (m, take-length b, take-all (length d) b h, zero-add (length b)))
     (λ e. let h : length d ≤ length b = le-of-lt (leb-false _ _ e) in
-        let m : min (length b) (length d - 0) ≡ length d = omega arith in
-        rw (m, drop-of-length-le d h, zero-add (length d), drop-length d))
+    let m : min (length b) (length d - 0) ≡ length d = omega arith in
+    rw (m, drop-of-length-le d h, zero-add (length d), drop-length d))
 
 front-kept : (d b : List ℕ) → take (length b) (take (length d) b ++ drop (length b) d) ≡ take (length d) b
 front-kept d b =
     by (leb (length b) (length d))
     (λ e. rw (take-all (length d) b (leb-true _ _ e)) (take-at b (drop (length b) d) (length b) refl))
     (λ e. let h : length d ≤ length b = le-of-lt (leb-false _ _ e) in
-        rw (drop-of-length-le d h, append-nil (take (length d) b))
-        (take-all (length b) (take (length d) b) (simp length-take (omega arith))))
+    rw (drop-of-length-le d h, append-nil (take (length d) b))
+    (take-all (length b) (take (length d) b) (simp length-take (omega arith))))
 
 -- both together
 pub front-whole : (d b : List ℕ) → zeroedFrom (length b) (laid d 0 (part b 0 (length b))) ≡ inFront b (length d)
