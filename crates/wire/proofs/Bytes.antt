@@ -71,3 +71,13 @@ past-end zero s i h = refl
 past-end (suc n) s i h =
     let rest : value (window n s (i + 1)) ≡ 0 = past-end n s (i + 1) (omega arith) in
     omega (arith, List·getD-eq-default s 0 h)
+
+-- a list of bytes, element by element
+abbrev pub EachByte : List ℕ → Type 0
+EachByte [] = Unit {0}
+EachByte (b ∷ s) = (b < 256) × EachByte s
+
+pub each-byte : (s : List ℕ) → EachByte s → Bytes s
+each-byte [] h i = lit< tt
+each-byte (b ∷ s) h zero = h .0
+each-byte (b ∷ s) h (suc i) = each-byte s (h .1) i
