@@ -5,10 +5,9 @@ use mathlib.Core.List.{List, map}
 use Prim.Native.Nat.{ℕ, _%_, _<_}
 use native.Mathlib.Nat.{mod-eq-of-lt}
 use lib.Dec.{T}
-use lib.ListN.{length, getD}
-use Rattle.wire.specs.Fields.{Filled, read, putAll, packed, laidOut}
-use Rattle.wire.proofs.Bytes.{length-bytes}
-use Rattle.wire.proofs.Fields.{Row, read-packed, cut}
+use lib.ListN.{getD}
+use Rattle.wire.specs.Fields.{Filled, read, packed, laidOut}
+use Rattle.wire.proofs.Fields.{Row, length-packed, read-packed, cut}
 use Rattle.mailbox.specs.Numbers.{priorityNumber, priorityOf, typeNumber, typeOf, serviceNumber, serviceOf, commandNumber, commandOf, operationNumber, operationOf}
 use Rattle.mailbox.specs.Headers.{bit, flag, mailboxRows, readMailboxHeader, coeRows, readCoeHeader, sdoRows, readSdoHeader, segmentedRows, readSegmented, sdoInfoRows, readSdoInfo}
 use Rattle.mailbox.specs.declared.Priority.{Priority}
@@ -35,10 +34,6 @@ use Rattle.mailbox.specs.declared.headers.SdoHeaderSegmented.{SdoHeaderS
 use Rattle.mailbox.specs.declared.headers.SdoHeaderSegmentedRead.the-variants as SdoHeaderSegmentedRead
 use Rattle.mailbox.specs.declared.headers.SdoInfoHeader.{SdoInfoHeader}
 use Rattle.mailbox.specs.declared.headers.SdoInfoHeaderRead.the-variants as SdoInfoHeaderRead
-
-sixteen-long : (rows : Filled) → length (packed 16 rows) ≡ 16
-unfolding packed
-sixteen-long rows = length-bytes 16 (putAll rows 0)
 
 priority-back : (p : Priority) → priorityOf (priorityNumber p % 4) ≡ p
 unfolding priorityOf
@@ -100,27 +95,27 @@ pub mailbox-back : (h : MailboxHeader) → h .length < 65536 → h .counter < 8
 unfolding readMailboxHeader
 mailbox-back h l c =
     let back = field-back (mailboxRows h) tt in
-    rw (sixteen-long (mailboxRows h), back 2, type-back (h .«mailbox_type»), back 0, mod-eq-of-lt l, back 1, priority-back (h .priority), back 3, mod-eq-of-lt c)
+    rw (length-packed 16 (mailboxRows h), back 2, type-back (h .«mailbox_type»), back 0, mod-eq-of-lt l, back 1, priority-back (h .priority), back 3, mod-eq-of-lt c)
 
 pub coe-back : (h : CoeHeader) → readCoeHeader (packed 16 (coeRows h)) ≡ CoeHeaderRead.Header h
 unfolding readCoeHeader
-coe-back h = rw (sixteen-long (coeRows h), field-back (coeRows h) tt 0, service-back (h .service))
+coe-back h = rw (length-packed 16 (coeRows h), field-back (coeRows h) tt 0, service-back (h .service))
 
 pub sdo-back : (h : SdoHeader) → h .size < 4 → h .index < 65536 → h .«sub_index» < 256
     → readSdoHeader (packed 16 (sdoRows h)) ≡ SdoHeaderRead.Header h
 unfolding readSdoHeader
 sdo-back h z i b =
     let back = field-back (sdoRows h) tt in
-    rw (sixteen-long (sdoRows h), back 4, command-back (h .command), back 0, flag-back (h .«size_indicator»), back 1, flag-back (h .«expedited_transfer»), back 2, mod-eq-of-lt z, back 3, flag-back (h .«complete_access»), back 5, mod-eq-of-lt i, back 6, mod-eq-of-lt b)
+    rw (length-packed 16 (sdoRows h), back 4, command-back (h .command), back 0, flag-back (h .«size_indicator»), back 1, flag-back (h .«expedited_transfer»), back 2, mod-eq-of-lt z, back 3, flag-back (h .«complete_access»), back 5, mod-eq-of-lt i, back 6, mod-eq-of-lt b)
 
 pub segmented-back : (h : SdoHeaderSegmented) → h .«segment_data_size» < 8 → readSegmented (packed 16 (segmentedRows h)) ≡ SdoHeaderSegmentedRead.Header h
 unfolding readSegmented
 segmented-back h u =
     let back = field-back (segmentedRows h) tt in
-    rw (sixteen-long (segmentedRows h), back 3, command-back (h .command), back 0, flag-back (h .«is_last_segment»), back 1, mod-eq-of-lt u, back 2, flag-back (h .toggle))
+    rw (length-packed 16 (segmentedRows h), back 3, command-back (h .command), back 0, flag-back (h .«is_last_segment»), back 1, mod-eq-of-lt u, back 2, flag-back (h .toggle))
 
 pub info-back : (h : SdoInfoHeader) → h .«fragments_left» < 65536 → readSdoInfo (packed 16 (sdoInfoRows h)) ≡ SdoInfoHeaderRead.Header h
 unfolding readSdoInfo
 info-back h f =
     let back = field-back (sdoInfoRows h) tt in
-    rw (sixteen-long (sdoInfoRows h), back 0, operation-back (h .«op_code»), back 1, flag-back (h .incomplete), back 2, mod-eq-of-lt f)
+    rw (length-packed 16 (sdoInfoRows h), back 0, operation-back (h .«op_code»), back 1, flag-back (h .incomplete), back 2, mod-eq-of-lt f)

@@ -19,6 +19,10 @@ use Rattle.wire.proofs.Bytes.{length-bytes, value-bytes, bytes-value, b
 abbrev pub Row : Type 0
 Row = Field × ℕ
 
+pub length-packed : (n : ℕ) (rs : Filled) → length (packed n rs) ≡ n
+unfolding packed
+length-packed n rs = length-bytes n (putAll rs 0)
+
 both-left : (a b : Bool) → T (both a b) → T a
 both-left true b t = tt
 both-left false b t = t

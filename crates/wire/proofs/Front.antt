@@ -6,7 +6,7 @@ use native.Mathlib.Nat.{le-of-lt, zero-add}
 use native.Mathlib.Omega.{arith}
 use borrow.Author.Tests.{leb-true, leb-false}
 use lib.Dec.{leb}
-use lib.ListN.{length, take, drop, set, getD, replicate, length-append, length-take, length-drop, length-replicate, getD-replicate, drop-of-length-le}
+use lib.ListN.{length, take, drop, set, getD, replicate, length-append, length-take, length-drop, length-replicate, getD-replicate, replicate-append-replicate, drop-of-length-le}
 use lib.Seq.{paste, paste-zero, take-all, take-length, drop-length, take-at}
 use Rattle.wire.specs.Store.{laid, part}
 use Rattle.wire.specs.Front.{inFront, zeroedFrom}
@@ -78,3 +78,12 @@ front-whole d b =
 pub length-inFront : (p : List ℕ) (n : ℕ) → length (inFront p n) ≡ n
 unfolding inFront
 length-inFront p n = simp (length-append, length-take, length-replicate) (omega arith)
+
+-- padding in two steps is padding in one
+pub inFront-again : (p : List ℕ) (k n : ℕ) → length p ≤ k → k ≤ n → inFront (inFront p k) n ≡ inFront p n
+unfolding inFront
+inFront-again p k n hp hk =
+    let e : k - length p + (n - (length p + (k - length p))) ≡ n - length p = omega arith in
+    let long : length (p ++ replicate (k - length p) 0) ≤ n = simp (length-append, length-replicate) (omega arith) in
+    rw (take-all k p hp, take-all n p (omega arith), take-all n (p ++ replicate (k - length p) 0) long)
+    (simp (append-assoc, replicate-append-replicate, length-append, length-replicate, e))

@@ -5,14 +5,15 @@ use Prim.Native.Nat.{ℕ, zero, suc, _+_, _-_, _*_, _/_, _%_, _^_, _<_, _≤_}
 use native.Mathlib.Nat.{pow-suc, mul-comm, mul-assoc, mul-add, add-zero, zero-add, mul-zero, div-one, div-div-eq-div-mul, add-mul-div-left, add-mul-mod-self-left, div-eq-of-lt, mul-div-right}
 use native.Mathlib.Omega.{arith}
 use lib.Dec.{T, lit<}
-use lib.ListN.{length, take, drop}
+use lib.ListN.{length, take, drop, replicate}
 use lib.Pow.{pow-add, pow-pos}
-use lib.Seq.{take-at, drop-at}
+use lib.Seq.{take-at, drop-at, take-nil, length-take-le, drop-append-le}
 use Rattle.wire.specs.Bytes.{bytes}
+use Rattle.wire.specs.Store.{part}
 use Rattle.wire.specs.Fields.{Field, end, put, Filled, putAll, packed, laidOut}
 use Rattle.wire.proofs.Bits.{put-less}
 use Rattle.wire.proofs.Bytes.{length-bytes}
-use Rattle.wire.proofs.Fields.{Row, starts, others, bytes-bits, sumOf, put-sum, put-under}
+use Rattle.wire.proofs.Fields.{Row, length-packed, starts, others, bytes-bits, sumOf, put-sum, put-under}
 
 next : (x k : ℕ) → x / 256 / 256 ^ k ≡ x / 256 ^ suc k
 next x k = div-div-eq-div-mul x 256 (256 ^ k) ∙ ap (λ (m : ℕ). x / m) (mul-comm 256 (256 ^ k) ∙ sym (pow-suc 256 k))
@@ -100,3 +101,35 @@ module _ (k m : ℕ) (rs ts : Filled) (o : T (laidOut 0 rs (8 * k))) (p : T (lai
       ∙ ap (λ (l : List ℕ). l ++ bytes m ((lower + 256 ^ k * q) / 256 ^ k)) (lowest k lower q ∙ sym first-part)
       ∙ ap (λ (y : ℕ). take k (packed (k + m) rs) ++ bytes m y) above
       ∙ ap (λ (l : List ℕ). take k (packed (k + m) rs) ++ l) (sym second-part)
+
+-- ---- a header in the middle of a frame
+
+drop-take : (k m : ℕ) (l : List ℕ) → drop k (take (k + m) l) ≡ take m (drop k l)
+drop-take zero m l = rw (zero-add m)
+drop-take (suc k) m [] = rw (take-nil {A = ℕ} (suc k + m)) (sym (take-nil m))
+drop-take (suc k) m (x ∷ l) = let e : suc k + m ≡ suc (k + m) = omega arith in rw e (drop-take k m l)
+
+-- the bytes from k on of two tables in n bytes: m bytes of the first, then those of the second
+pub from-joined : (n k m : ℕ) (rs ts : Filled) → k + m ≤ n → T (laidOut 0 rs (8 * (k + m))) → T (laidOut (8 * (k + m)) ts (8 * n))
+    → drop k (packed n (rs ++ ts)) ≡ part (packed n rs) k m ++ drop (k + m) (packed n ts)
+from-joined n k m rs ts h o p =
+    let j : ℕ = k + m in
+    let e : j + (n - j) ≡ n = omega arith in
+    let whole : packed n (rs ++ ts) ≡ take j (packed n rs) ++ drop j (packed n ts) =
+        rw e at (packed-joined j (n - j) rs ts o (rw e p)) in
+    let long : length (take j (packed n rs)) ≡ j = length-take-le j (packed n rs) (rw (length-packed n rs) h) in
+    ap (drop k) whole
+    ∙ drop-append-le k (take j (packed n rs)) (drop j (packed n ts)) (omega arith)
+    ∙ ap (λ (l : List ℕ). l ++ drop j (packed n ts)) (drop-take k m (packed n rs))
+
+zero-bytes : (m : ℕ) → bytes m 0 ≡ replicate m 0
+zero-bytes zero = refl
+zero-bytes (suc m) = ap (λ (l : List ℕ). 0 ∷ l) (zero-bytes m)
+
+-- more bytes than a table needs are zeros
+pub packed-longer : (n m : ℕ) (rs : Filled) → T (laidOut 0 rs (8 * n)) → packed (n + m) rs ≡ packed n rs ++ replicate m 0
+unfolding packed
+packed-longer n m rs o =
+    let x : ℕ = putAll rs 0 in
+    let under : x < 256 ^ n = rw (bytes-bits n) (put-under rs 0 (8 * n) 0 o (lit< tt)) in
+    split n m x ∙ ap (λ (q : ℕ). bytes n x ++ bytes m q) (div-eq-of-lt under) ∙ ap (λ (l : List ℕ). bytes n x ++ l) (zero-bytes m)
