@@ -15,7 +15,7 @@ use Rattle.mailbox.specs.Fields.{place, lengthField, priority, mailboxTy
 use Rattle.mailbox.specs.Headers.{stretch}
 
 -- the bytes from a place on of a frame that makes the same sum as the table
-stretch-is : (from len : ℕ) (rows : Filled) (frame : List ℕ) → T (laidOut 0 rows 128) → length frame ≡ 16 → EachByte frame → value frame ≡ sumOf rows
+pub stretch-is : (from len : ℕ) (rows : Filled) (frame : List ℕ) → T (laidOut 0 rows 128) → length frame ≡ 16 → EachByte frame → value frame ≡ sumOf rows
     → part frame from len ≡ stretch from len rows
 stretch-is from len rows frame o l b v = ap (λ s. part s from len) (sym (packed-is 16 rows frame o l (each-byte frame b) v))
 

@@ -18,8 +18,8 @@ ghost use Prim.Native.Nat.{_-_, _%_, _^_};
 ghost use lib.ListN.{length};
 ghost use Rattle.wire.specs.Bytes.{bytes};
 ghost use Rattle.wire.specs.Front.{inFront};
-ghost use Rattle.services.specs.Requests.{mailboxOf, uploadHeader, downloadHeader, segmentHeader, listHeader, cutTo, packedOf, answered};
-ghost use Rattle.services.specs.Written.{wroteOf, frameWith};
+ghost use Rattle.services.specs.Requests.{mailboxOf, uploadHeader, downloadHeader, segmentHeader, listHeader, cutTo, packedOf, named, answered};
+ghost use Rattle.services.specs.Written.{wroteOf, frameWith, numberOf};
 
 pub mod checked;
 
@@ -38,7 +38,7 @@ pub enum Request {
     Segment {
         toggle: bool,
     },
-    List {
+    Information {
         kind: u16,
     },
 }
@@ -138,11 +138,112 @@ fn four_bytes(x: u32) -> [u8; 4]
     ]
 }
 
-fn joined(mailbox: [u8; 6], coe: [u8; 2], header: [u8; 4], rest: [u8; 4]) -> [u8; 16]
-    ensures { λ r. ⌜ r ≡ mailbox ++ coe ++ header ++ rest ⌝ }
+fn joined(mailbox: [u8; 6], service: [u8; 2], header: [u8; 4], rest: [u8; 4]) -> [u8; 16]
+    ensures { λ r. ⌜ r ≡ mailbox ++ (service ++ (header ++ rest)) ⌝ }
 {
     [
-        mailbox[0], mailbox[1], mailbox[2], mailbox[3], mailbox[4], mailbox[5], coe[0], coe[1],
+        mailbox[0], mailbox[1], mailbox[2], mailbox[3], mailbox[4], mailbox[5], service[0], service[1],
         header[0], header[1], header[2], header[3], rest[0], rest[1], rest[2], rest[3],
     ]
+}
+
+fn upload(counter: u8, index: u16, access: SubIndex) -> [u8; 16]
+    ensures { λ r. ⌜ r ≡ inFront (packedOf counter (Request.Upload index access)) 16 ⌝ }
+{
+    joined(
+        mailbox_header(10, counter).pack(),
+        CoeHeader { service: CoeService::SdoRequest }.pack(),
+        upload_header(index, access).pack(),
+        [0; 4],
+    )
+}
+
+fn download(counter: u8, index: u16, access: SubIndex, value: u32, len: u8) -> [u8; 16]
+    ensures { λ r. ⌜ r ≡ inFront (packedOf counter (Request.Download index access value len)) 16 ⌝ }
+{
+    joined(
+        mailbox_header(10, counter).pack(),
+        CoeHeader { service: CoeService::SdoRequest }.pack(),
+        download_header(index, access, len).pack(),
+        four_bytes(cut_to(len, value)),
+    )
+}
+
+fn upload_segment(counter: u8, toggle: bool) -> [u8; 16]
+    ensures { λ r. ⌜ r ≡ inFront (packedOf counter (Request.Segment toggle)) 16 ⌝ }
+{
+    let header = segment_header(toggle).pack();
+    joined(
+        mailbox_header(10, counter).pack(),
+        CoeHeader { service: CoeService::SdoRequest }.pack(),
+        [header[0], 0, 0, 0],
+        [0; 4],
+    )
+}
+
+fn object_description_list(counter: u8, kind: u16) -> [u8; 16]
+    ensures { λ r. ⌜ r ≡ inFront (packedOf counter (Request.Information kind)) 16 ⌝ }
+{
+    joined(
+        mailbox_header(8, counter).pack(),
+        CoeHeader { service: CoeService::SdoInformation }.pack(),
+        list_header().pack(),
+        four_bytes(kind as u32),
+    )
+}
+
+// Every request in sixteen bytes, those past its end zero. What a field can't hold is cut off.
+pub fn pack(counter: u8, request: Request) -> [u8; 16]
+    ensures { λ r. ⌜ r ≡ inFront (packedOf counter request) 16 ⌝ }
+{
+    match request {
+        Request::Upload { index, access } => upload(counter, index, access),
+        Request::Download { index, access, value, len } => download(counter, index, access, value, len),
+        Request::Segment { toggle } => upload_segment(counter, toggle),
+        Request::Information { kind } => object_description_list(counter, kind),
+    }
+}
+
+// Puts the request at the front of the frame buffer and zeros behind it, or refuses a buffer of another length.
+pub fn write_request(counter: u8, request: Request, frame: &mut [u8]) -> Wrote
+    ensures { λ r. ⌜ (r ≡ wroteOf (length (now (frame .entry)))) × (now (frame .exit) ≡ frameWith (packedOf counter request) (now (frame .entry))) ⌝ }
+{
+    if frame.len() < 16 {
+        return Wrote::Refused(0x16);
+    }
+    if 1486 < frame.len() {
+        return Wrote::Refused(0x16);
+    }
+    let bytes = pack(counter, request);
+    wire::put_front(frame, &bytes);
+    Wrote::Frame
+}
+
+fn names(index: u16, access: SubIndex, received_index: u16, received_subindex: u8) -> bool
+    ensures { λ r. ⌜ r ≡ named index access «received_index» «received_subindex» ⌝ }
+{
+    let sub_index = access.sub_index();
+    received_index == index && received_subindex == sub_index
+}
+
+// Whether a reply's index and sub-index are the request's.
+pub fn validate_response(request: Request, received_index: u16, received_subindex: u8) -> bool
+    ensures { λ r. ⌜ r ≡ answered request «received_index» «received_subindex» ⌝ }
+{
+    match request {
+        Request::Upload { index, access } => names(index, access, received_index, received_subindex),
+        Request::Download { index, access, value: _, len: _ } => names(index, access, received_index, received_subindex),
+        Request::Segment { toggle: _ } => true,
+        Request::Information { kind: _ } => true,
+    }
+}
+
+// The paper's number of an answer.
+pub fn number_of(wrote: Wrote) -> u8
+    ensures { λ r. ⌜ r ≡ numberOf wrote ⌝ }
+{
+    match wrote {
+        Wrote::Frame => 0x02,
+        Wrote::Refused(n) => n,
+    }
 }

@@ -2,12 +2,12 @@
 use mathlib.Core.Path.{_≡_, refl, sym, ap, _∙_}
 use mathlib.Core.List.{List, [], _∷_, _++_}
 use Prim.Native.Nat.{ℕ, zero, suc, _+_, _-_, _*_, _/_, _%_, _^_, _<_, _≤_}
-use native.Mathlib.Nat.{pow-suc, mul-comm, mul-assoc, mul-add, add-zero, zero-add, mul-zero, div-one, div-div-eq-div-mul, add-mul-div-left, add-mul-mod-self-left, div-eq-of-lt, mul-div-right}
+use native.Mathlib.Nat.{pow-suc, mul-comm, mul-assoc, mul-add, add-zero, zero-add, mul-zero, div-one, div-div-eq-div-mul, add-mul-div-left, add-mul-mod-self-left, div-eq-of-lt, mul-div-right, not-suc-le-zero, le-of-suc-le-suc}
 use native.Mathlib.Omega.{arith}
 use lib.Dec.{T, lit<}
-use lib.ListN.{length, take, drop, replicate}
+use lib.ListN.{length, take, drop, replicate, length-drop}
 use lib.Pow.{pow-add, pow-pos}
-use lib.Seq.{take-at, drop-at, take-nil, length-take-le, drop-append-le}
+use lib.Seq.{take-at, drop-at, take-nil, length-take-le, drop-append-le, take-append-add}
 use Rattle.wire.specs.Bytes.{bytes}
 use Rattle.wire.specs.Store.{part}
 use Rattle.wire.specs.Fields.{Field, end, put, Filled, putAll, packed, laidOut}
@@ -133,3 +133,26 @@ packed-longer n m rs o =
     let x : ℕ = putAll rs 0 in
     let under : x < 256 ^ n = rw (bytes-bits n) (put-under rs 0 (8 * n) 0 o (lit< tt)) in
     split n m x ∙ ap (λ (q : ℕ). bytes n x ++ bytes m q) (div-eq-of-lt under) ∙ ap (λ (l : List ℕ). bytes n x ++ l) (zero-bytes m)
+
+take-zeros : (j r : ℕ) → j ≤ r → _≡_ {A = List ℕ} (take j (replicate r 0)) (replicate j 0)
+take-zeros zero r h = refl
+take-zeros (suc j) zero h = absurd (not-suc-le-zero h)
+take-zeros (suc j) (suc r) h = ap (λ (l : List ℕ). 0 ∷ l) (take-zeros j r (le-of-suc-le-suc h))
+
+-- the same of a header in the middle: behind the m bytes of its table stand zeros
+pub part-longer : (n k m j : ℕ) (rs : Filled) → k + m + j ≤ n → T (laidOut 0 rs (8 * (k + m)))
+    → part (packed n rs) k (m + j) ≡ part (packed n rs) k m ++ replicate j 0
+part-longer n k m j rs h o =
+    let q : List ℕ = packed (k + m) rs in
+    let r : ℕ = n - (k + m) in
+    let a : List ℕ = drop k q in
+    let e : k + m + r ≡ n = omega arith in
+    let whole : packed n rs ≡ q ++ replicate r 0 = rw e at (packed-longer (k + m) r rs o) in
+    let behind : drop k (packed n rs) ≡ a ++ replicate r 0 =
+        ap (drop k) whole ∙ drop-append-le k q (replicate r 0) (rw (length-packed (k + m) rs) (omega arith)) in
+    let long : length a ≡ m = length-drop k q ∙ rw (length-packed (k + m) rs) (omega arith) in
+    ap (take (m + j)) behind
+    ∙ ap (λ (i : ℕ). take (i + j) (a ++ replicate r 0)) (sym long)
+    ∙ take-append-add a (replicate r 0) j
+    ∙ ap (λ (l : List ℕ). a ++ l) (take-zeros j r (omega arith))
+    ∙ ap (λ (l : List ℕ). l ++ replicate j 0) (sym (ap (take m) behind ∙ take-at a (replicate r 0) m long))

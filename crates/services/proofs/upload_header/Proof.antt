@@ -1,0 +1,14 @@
+-- `services::upload_header` meets its contract: its fields are those of the definition.
+use Rattle.services.proofs.upload_header.Statement.{statement}
+use Rattle.services.proofs.upload_header.Tie as tie
+
+returns : tie.Need-returns
+returns c = cc
+
+pub upload-header-spec : {M : Type 1} → statement M
+upload-header-spec =
+    tie.close
+    (tie.spec
+    (λ c κs. tt)
+    (λ c κs. tt)
+    returns)
