@@ -24,7 +24,7 @@ module _ (m c h d : Filled) (om : T (laidOut 0 m 48)) (oc : T (laidOut 0 c 64)) 
       → stretch 0 6 m ++ (stretch 6 2 c ++ (stretch 8 4 h ++ stretch 12 4 d)) ≡ packed 16 (m ++ (c ++ (h ++ d)))
   four-parts p q r =
       let last : drop 12 (packed 16 d) ≡ stretch 12 4 d =
-          sym (take-all 4 (drop 12 (packed 16 d)) (rw (length-drop 12 (packed 16 d), length-packed 16 d) (lit≤ tt))) in
+      sym (take-all 4 (drop 12 (packed 16 d)) (rw (length-drop 12 (packed 16 d), length-packed 16 d) (lit≤ tt))) in
       sym (from-joined 16 0 6 m (c ++ (h ++ d)) (lit≤ tt) om p
       ∙ ap (λ l. stretch 0 6 m ++ l) (from-joined 16 6 2 c (h ++ d) (lit≤ tt) oc q)
       ∙ ap (λ l. stretch 0 6 m ++ (stretch 6 2 c ++ l)) (from-joined 16 8 4 h d (lit≤ tt) oh r)

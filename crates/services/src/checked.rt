@@ -1,10 +1,14 @@
 // The writers as a host calls them: everything that is handed in is judged, 15 before 16.
-use mailbox::headers::SubIndex;
 use crate::Request;
 use crate::Wrote;
+use mailbox::headers::SubIndex;
 ghost use mathlib.Core.Path.{_≡_};
+ghost use mathlib.Core.Bool.{true};
+ghost use lib.Dec.{leb, eqb};
 ghost use lib.ListN.{length};
-ghost use Rattle.services.specs.Written.{countable, askable, checkedAnswer, checkedFrame};
+ghost use Rattle.wire.specs.Words.{both};
+ghost use Rattle.wire.specs.Bytes.{longAt};
+ghost use Rattle.services.specs.Written.{countable, askable, checkedAnswer, checkedFrame, isFlag, accessOf, Writes};
 
 fn counts(counter: u8) -> bool
     ensures { λ r. ⌜ r ≡ countable counter ⌝ }
@@ -16,8 +20,16 @@ fn asks(request: Request) -> bool
     ensures { λ r. ⌜ r ≡ askable request ⌝ }
 {
     match request {
-        Request::Upload { index: _, access: _ } => true,
-        Request::Download { index: _, access: _, value: _, len } => 1 <= len && len <= 4,
+        Request::Upload {
+            index: _,
+            access: _,
+        } => true,
+        Request::Download {
+            index: _,
+            access: _,
+            value: _,
+            len,
+        } => 1 <= len && len <= 4,
         Request::Segment { toggle: _ } => true,
         Request::Information { kind } => kind <= 5,
     }
@@ -33,4 +45,78 @@ pub fn write_request(counter: u8, request: Request, frame: &mut [u8]) -> Wrote
         }
     }
     Wrote::Refused(0x15)
+}
+
+fn access_of(sub_index: u8, complete: u8) -> SubIndex
+    ensures { λ r. ⌜ r ≡ accessOf «sub_index» complete ⌝ }
+{
+    if complete == 1 {
+        return SubIndex::Complete;
+    }
+    SubIndex::Index(sub_index)
+}
+
+// An upload; `complete` is 0 or 1.
+pub fn upload_frame(counter: u8, index: u16, sub_index: u8, complete: u8, frame: &mut [u8]) -> Wrote
+    ensures { λ r. ⌜ Writes (isFlag complete) counter (Request.Upload index (accessOf «sub_index» complete)) (now (frame .entry)) r (now (frame .exit)) ⌝ }
+{
+    if complete <= 1 {
+        let access = access_of(sub_index, complete);
+        return write_request(counter, Request::Upload { index, access }, frame);
+    }
+    Wrote::Refused(0x15)
+}
+
+// A download of one to four bytes.
+pub fn download_frame(
+    counter: u8,
+    index: u16,
+    sub_index: u8,
+    complete: u8,
+    bytes: &[u8],
+    frame: &mut [u8],
+) -> Wrote
+    ensures { λ r. ⌜ Writes (both (isFlag complete) (leb (length (now (bytes .entry))) 4)) counter (Request.Download index (accessOf «sub_index» complete) (longAt (now (bytes .entry)) 0) (length (now (bytes .entry)))) (now (frame .entry)) r (now (frame .exit)) ⌝ }
+{
+    if complete <= 1 {
+        if bytes.len() <= 4 {
+            let access = access_of(sub_index, complete);
+            let value = wire::long_at(bytes, 0);
+            let len = bytes.len() as u8;
+            return write_request(
+                counter,
+                Request::Download {
+                    index,
+                    access,
+                    value,
+                    len,
+                },
+                frame,
+            );
+        }
+    }
+    Wrote::Refused(0x15)
+}
+
+// The request for a segment; `toggle` is 0 or 1.
+pub fn segment_frame(counter: u8, toggle: u8, frame: &mut [u8]) -> Wrote
+    ensures { λ r. ⌜ Writes (isFlag toggle) counter (Request.Segment (eqb toggle 1)) (now (frame .entry)) r (now (frame .exit)) ⌝ }
+{
+    if toggle <= 1 {
+        return write_request(
+            counter,
+            Request::Segment {
+                toggle: toggle == 1,
+            },
+            frame,
+        );
+    }
+    Wrote::Refused(0x15)
+}
+
+// The request for an object list of kind 1 to 5, or for the quantities, 0.
+pub fn list_frame(counter: u8, kind: u16, frame: &mut [u8]) -> Wrote
+    ensures { λ r. ⌜ Writes true counter (Request.Information kind) (now (frame .entry)) r (now (frame .exit)) ⌝ }
+{
+    write_request(counter, Request::Information { kind }, frame)
 }

@@ -142,8 +142,22 @@ fn joined(mailbox: [u8; 6], service: [u8; 2], header: [u8; 4], rest: [u8; 4]) ->
     ensures { λ r. ⌜ r ≡ mailbox ++ (service ++ (header ++ rest)) ⌝ }
 {
     [
-        mailbox[0], mailbox[1], mailbox[2], mailbox[3], mailbox[4], mailbox[5], service[0], service[1],
-        header[0], header[1], header[2], header[3], rest[0], rest[1], rest[2], rest[3],
+        mailbox[0],
+        mailbox[1],
+        mailbox[2],
+        mailbox[3],
+        mailbox[4],
+        mailbox[5],
+        service[0],
+        service[1],
+        header[0],
+        header[1],
+        header[2],
+        header[3],
+        rest[0],
+        rest[1],
+        rest[2],
+        rest[3],
     ]
 }
 
@@ -152,7 +166,9 @@ fn upload(counter: u8, index: u16, access: SubIndex) -> [u8; 16]
 {
     joined(
         mailbox_header(10, counter).pack(),
-        CoeHeader { service: CoeService::SdoRequest }.pack(),
+        CoeHeader {
+            service: CoeService::SdoRequest,
+        }.pack(),
         upload_header(index, access).pack(),
         [0; 4],
     )
@@ -163,7 +179,9 @@ fn download(counter: u8, index: u16, access: SubIndex, value: u32, len: u8) -> [
 {
     joined(
         mailbox_header(10, counter).pack(),
-        CoeHeader { service: CoeService::SdoRequest }.pack(),
+        CoeHeader {
+            service: CoeService::SdoRequest,
+        }.pack(),
         download_header(index, access, len).pack(),
         four_bytes(cut_to(len, value)),
     )
@@ -175,7 +193,9 @@ fn upload_segment(counter: u8, toggle: bool) -> [u8; 16]
     let header = segment_header(toggle).pack();
     joined(
         mailbox_header(10, counter).pack(),
-        CoeHeader { service: CoeService::SdoRequest }.pack(),
+        CoeHeader {
+            service: CoeService::SdoRequest,
+        }.pack(),
         [header[0], 0, 0, 0],
         [0; 4],
     )
@@ -186,7 +206,9 @@ fn object_description_list(counter: u8, kind: u16) -> [u8; 16]
 {
     joined(
         mailbox_header(8, counter).pack(),
-        CoeHeader { service: CoeService::SdoInformation }.pack(),
+        CoeHeader {
+            service: CoeService::SdoInformation,
+        }.pack(),
         list_header().pack(),
         four_bytes(kind as u32),
     )
@@ -198,7 +220,12 @@ pub fn pack(counter: u8, request: Request) -> [u8; 16]
 {
     match request {
         Request::Upload { index, access } => upload(counter, index, access),
-        Request::Download { index, access, value, len } => download(counter, index, access, value, len),
+        Request::Download {
+            index,
+            access,
+            value,
+            len,
+        } => download(counter, index, access, value, len),
         Request::Segment { toggle } => upload_segment(counter, toggle),
         Request::Information { kind } => object_description_list(counter, kind),
     }
@@ -231,8 +258,18 @@ pub fn validate_response(request: Request, received_index: u16, received_subinde
     ensures { λ r. ⌜ r ≡ answered request «received_index» «received_subindex» ⌝ }
 {
     match request {
-        Request::Upload { index, access } => names(index, access, received_index, received_subindex),
-        Request::Download { index, access, value: _, len: _ } => names(index, access, received_index, received_subindex),
+        Request::Upload { index, access } => names(
+            index,
+            access,
+            received_index,
+            received_subindex,
+        ),
+        Request::Download {
+            index,
+            access,
+            value: _,
+            len: _,
+        } => names(index, access, received_index, received_subindex),
         Request::Segment { toggle: _ } => true,
         Request::Information { kind: _ } => true,
     }

@@ -116,7 +116,7 @@ from-joined n k m rs ts h o p =
     let j : ℕ = k + m in
     let e : j + (n - j) ≡ n = omega arith in
     let whole : packed n (rs ++ ts) ≡ take j (packed n rs) ++ drop j (packed n ts) =
-        rw e at (packed-joined j (n - j) rs ts o (rw e p)) in
+    rw e at (packed-joined j (n - j) rs ts o (rw e p)) in
     let long : length (take j (packed n rs)) ≡ j = length-take-le j (packed n rs) (rw (length-packed n rs) h) in
     ap (drop k) whole
     ∙ drop-append-le k (take j (packed n rs)) (drop j (packed n ts)) (omega arith)
@@ -149,7 +149,7 @@ part-longer n k m j rs h o =
     let e : k + m + r ≡ n = omega arith in
     let whole : packed n rs ≡ q ++ replicate r 0 = rw e at (packed-longer (k + m) r rs o) in
     let behind : drop k (packed n rs) ≡ a ++ replicate r 0 =
-        ap (drop k) whole ∙ drop-append-le k q (replicate r 0) (rw (length-packed (k + m) rs) (omega arith)) in
+    ap (drop k) whole ∙ drop-append-le k q (replicate r 0) (rw (length-packed (k + m) rs) (omega arith)) in
     let long : length a ≡ m = length-drop k q ∙ rw (length-packed (k + m) rs) (omega arith) in
     ap (take (m + j)) behind
     ∙ ap (λ (i : ℕ). take (i + j) (a ++ replicate r 0)) (sym long)

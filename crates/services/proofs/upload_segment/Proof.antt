@@ -16,7 +16,7 @@ returns c =
     c .joined .ensures
     ∙ ap (λ l. two .pack2 .result ++ (c .before .pack3 .result ++ ((l ++ (0 ∷ 0 ∷ 0 ∷ [])) ++ (0 ∷ 0 ∷ 0 ∷ 0 ∷ [])))) (spelled 1 b (one .pack .ok .1 .0 .1))
     ∙ rw (two .pack2 .ensures, two .before .mailbox-header .ensures, c .before .pack3 .ensures, one .pack .ensures, one .before .segment-header .ensures)
-      (segment-is (a .counter) (a .toggle))
+    (segment-is (a .counter) (a .toggle))
 
 pub upload-segment-spec : {M : Type 1} → statement M
 upload-segment-spec =
