@@ -1,0 +1,7 @@
+pub mod Refusal
+pub mod Signed
+pub mod Typed
+pub mod List
+pub mod Quantities
+pub mod Answers
+pub mod Examples
