@@ -1,0 +1,48 @@
+-- The transfers of a sequence of calls, read off the accepted calls with no look at any desk. "A transfer is one entry": the
+-- calls for its seat are its own until the next entry there. Assumes nothing.
+use Prim.Native.Nat.{ℕ}
+use mathlib.Core.Bool.{Bool, true, false}
+use mathlib.Core.List.{List, [], _∷_, _++_}
+use lib.Dec.{eqb}
+use Rattle.wire.specs.Words.{pick}
+use Rattle.line.specs.Lists.{keep, someOf}
+use Rattle.line.specs.Machine.{Machine}
+use Rattle.line.specs.Desk.{Call, enter, send, receive, leave}
+use Rattle.line.specs.Stand.{Event}
+
+module _ {M : Machine} where
+  unfoldable pub seatOf : Call M → ℕ
+  seatOf (enter s e) = s
+  seatOf (send s b) = s
+  seatOf (receive s r) = s
+  seatOf (leave s) = s
+
+  unfoldable pub isEnter : Call M → Bool
+  isEnter (enter s e) = true
+  isEnter (send s b) = false
+  isEnter (receive s r) = false
+  isEnter (leave s) = false
+
+  unfoldable pub isSend : Call M → Bool
+  isSend (enter s e) = false
+  isSend (send s b) = true
+  isSend (receive s r) = false
+  isSend (leave s) = false
+
+  module _ {T : Type 0} where
+    -- the calls for a seat up to the next entry there
+    unfoldable pub own : ℕ → List (Event M T) → List (Event M T)
+    own s [] = []
+    own s (x ∷ xs) = pick (eqb s (seatOf (x .call))) (pick (isEnter (x .call)) [] (x ∷ own s xs)) (own s xs)
+
+    -- each entry with its own calls, by order of entry
+    unfoldable pub transfers : List (Event M T) → List (List (Event M T))
+    transfers [] = []
+    transfers (x ∷ xs) = pick (isEnter (x .call)) ((x ∷ own (seatOf (x .call)) xs) ∷ []) [] ++ transfers xs
+
+    unfoldable pub sentFrame : List (Event M T) → Bool
+    sentFrame = someOf (λ x. isSend (x .call))
+
+    -- the transfers that sent a frame, by order of entry, each with its own accepted calls and what was told of them
+    unfoldable pub listed : (T → Bool) → List (Event M T) → List (List (Event M T))
+    listed ok xs = keep sentFrame (transfers (keep (λ x. ok (x .told)) xs))
