@@ -1,0 +1,110 @@
+// The writers: the number, the first sixteen bytes behind the buffer's start, its last byte and the byte behind it.
+use crate::FILL;
+use crate::show;
+use mailbox::headers::SubIndex;
+use services::Request;
+use services::Wrote;
+
+fn written(wrote: Wrote, size: usize, buffer: &[u8]) {
+    show::number(services::number_of(wrote) as u64, 2);
+    show::words(b" ");
+    show::bytes(buffer, 16);
+    if size == 0 {
+        show::next(0, 2);
+    } else {
+        show::next(wire::byte(buffer, size - 1) as u64, 2);
+    }
+    show::next(wire::byte(buffer, size) as u64, 2);
+}
+
+pub fn upload(case: &[u8], buffer: &mut [u8]) {
+    let size = wire::word_at(case, 6) as usize;
+    if size <= buffer.len() {
+        show::fill(buffer, FILL);
+        let wrote = services::checked::upload_frame(
+            wire::byte(case, 1),
+            wire::word_at(case, 2),
+            wire::byte(case, 4),
+            wire::byte(case, 5),
+            &mut buffer[..size],
+        );
+        written(wrote, size, buffer);
+    }
+}
+
+pub fn download(case: &[u8], buffer: &mut [u8]) {
+    let size = wire::word_at(case, 6) as usize;
+    if size <= buffer.len() {
+        if 8 <= case.len() {
+            show::fill(buffer, FILL);
+            let wrote = services::checked::download_frame(
+                wire::byte(case, 1),
+                wire::word_at(case, 2),
+                wire::byte(case, 4),
+                wire::byte(case, 5),
+                &case[8..],
+                &mut buffer[..size],
+            );
+            written(wrote, size, buffer);
+        }
+    }
+}
+
+pub fn segment(case: &[u8], buffer: &mut [u8]) {
+    let size = wire::word_at(case, 3) as usize;
+    if size <= buffer.len() {
+        show::fill(buffer, FILL);
+        let wrote = services::checked::segment_frame(
+            wire::byte(case, 1),
+            wire::byte(case, 2),
+            &mut buffer[..size],
+        );
+        written(wrote, size, buffer);
+    }
+}
+
+pub fn list(case: &[u8], buffer: &mut [u8]) {
+    let size = wire::word_at(case, 4) as usize;
+    if size <= buffer.len() {
+        show::fill(buffer, FILL);
+        let wrote = services::checked::list_frame(
+            wire::byte(case, 1),
+            wire::word_at(case, 2),
+            &mut buffer[..size],
+        );
+        written(wrote, size, buffer);
+    }
+}
+
+fn access(case: &[u8]) -> SubIndex {
+    if wire::byte(case, 5) == 1 {
+        return SubIndex::Complete;
+    }
+    SubIndex::Index(wire::byte(case, 4))
+}
+
+fn request(case: &[u8]) -> Request {
+    let index = wire::word_at(case, 2);
+    match wire::byte(case, 1) {
+        1 => Request::Upload {
+            index,
+            access: access(case),
+        },
+        2 => Request::Download {
+            index,
+            access: access(case),
+            value: 0,
+            len: 1,
+        },
+        3 => Request::Segment { toggle: false },
+        _ => Request::Information { kind: 1 },
+    }
+}
+
+pub fn response(case: &[u8]) {
+    if services::validate_response(request(case), wire::word_at(case, 6), wire::byte(case, 8)) {
+        show::words(b"01");
+    } else {
+        show::words(b"00");
+    }
+}

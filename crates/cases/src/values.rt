@@ -1,0 +1,98 @@
+// The reads of a finished payload.
+use crate::show;
+use reads::list::ItemRead;
+use reads::quantities::QuantitiesRead;
+use reads::typed::SignedRead;
+use reads::typed::UnsignedRead;
+
+fn unsigned(read: UnsignedRead) {
+    match read {
+        UnsignedRead::Value(v) => {
+            show::number(0, 2);
+            show::next(v as u64, 8);
+        }
+        UnsignedRead::Refused(n) => {
+            show::number(n as u64, 2);
+            show::next(0, 8);
+        }
+    }
+}
+
+// The 32 bits of a number, made without a step that leaves its type.
+fn bits(v: i32) -> u32 {
+    if v < 0 {
+        0xffff_ffff - ((-1 - v) as u32)
+    } else {
+        v as u32
+    }
+}
+
+fn signed(read: SignedRead) {
+    match read {
+        SignedRead::Value(v) => {
+            show::number(0, 2);
+            show::next(bits(v) as u64, 8);
+        }
+        SignedRead::Refused(n) => {
+            show::number(n as u64, 2);
+            show::next(0, 8);
+        }
+    }
+}
+
+pub fn typed(case: &[u8]) {
+    if 2 <= case.len() {
+        let payload = &case[2..];
+        match wire::byte(case, 1) {
+            0x01 => unsigned(reads::typed::read_u8(payload)),
+            0x02 => unsigned(reads::typed::read_u16(payload)),
+            0x04 => unsigned(reads::typed::read_u32(payload)),
+            0x81 => signed(reads::typed::read_i8(payload)),
+            0x82 => signed(reads::typed::read_i16(payload)),
+            _ => signed(reads::typed::read_i32(payload)),
+        }
+    }
+}
+
+fn position(case: &[u8]) -> u64 {
+    let low = wire::long_at(case, 1) as u64;
+    let high = wire::long_at(case, 5) as u64;
+    low + 0x1_0000_0000 * high
+}
+
+pub fn item(case: &[u8]) {
+    if 9 <= case.len() {
+        let at = position(case);
+        match reads::list::item_at(&case[9..], at as usize) {
+            ItemRead::Item { index, next } => {
+                show::number(0, 2);
+                show::next(index as u64, 4);
+                show::next(next as u64, 16);
+            }
+            ItemRead::Refused(n) => {
+                show::number(n as u64, 2);
+                show::next(0, 4);
+                show::next(at, 16);
+            }
+        }
+    }
+}
+
+pub fn quantities(case: &[u8]) {
+    if 1 <= case.len() {
+        match reads::quantities::read_quantities(&case[1..]) {
+            QuantitiesRead::Counts(c) => {
+                show::number(0, 2);
+                show::next(c.all as u64, 4);
+                show::next(c.rx_pdo_mappable as u64, 4);
+                show::next(c.tx_pdo_mappable as u64, 4);
+                show::next(c.stored_for_device_replacement as u64, 4);
+                show::next(c.startup_parameters as u64, 4);
+            }
+            QuantitiesRead::Refused(n) => {
+                show::number(n as u64, 2);
+                show::words(b" 0000 0000 0000 0000 0000");
+            }
+        }
+    }
+}

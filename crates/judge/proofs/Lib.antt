@@ -1,0 +1,5 @@
+pub mod Laid
+pub mod Cases
+pub mod Alike
+pub mod Payload
+pub mod Numbers

@@ -1,0 +1,66 @@
+-- `answer_of` meets its contract: each arm gives the number and the values of its own case.
+use borrow.Author.Needs.{needs}
+use Rattle.judge.specs.Answers.{answerOf}
+use Rattle.judge.proofs.answer_of.Statement.{statement}
+use Rattle.judge.proofs.answer_of.Tie as tie
+
+returns : tie.Need-returns
+unfolding answerOf
+returns c = rw (c .before .before .verdict .given .1) (c .plain .ensures)
+
+returns-2 : tie.Need-returns-2
+unfolding answerOf
+returns-2 c = rw (c .before .verdict2 .given .1)
+
+returns-3 : tie.Need-returns-3
+unfolding answerOf
+returns-3 c = rw (c .before .verdict3 .given .1)
+
+returns-4 : tie.Need-returns-4
+unfolding answerOf
+returns-4 c = rw (c .before .before .verdict4 .given .1) (c .done .ensures)
+
+returns-5 : tie.Need-returns-5
+unfolding answerOf
+returns-5 c = rw (c .before .enum-told .given .1) (c .plain2 .ensures)
+
+returns-6 : tie.Need-returns-6
+unfolding answerOf
+returns-6 c = rw (c .before .before .verdict5 .given .1) (c .done-or .ensures)
+
+returns-7 : tie.Need-returns-7
+unfolding answerOf
+returns-7 c = rw (c .before .before .verdict6 .given .1) (c .done-or2 .ensures)
+
+returns-8 : tie.Need-returns-8
+unfolding answerOf
+returns-8 c = rw (c .before .enum-told2 .given .1) (c .plain3 .ensures)
+
+pub answer-of-spec : {M : Type 1} → statement M
+answer-of-spec =
+    tie.close
+    (tie.spec
+    (λ c. search needs)
+    (λ c κs. tt)
+    (λ c. search needs)
+    (λ c. search needs)
+    (λ c. search needs)
+    (λ c. search needs)
+    (λ c. search needs)
+    (λ c κs. tt)
+    (λ c. search needs)
+    (λ c κs. tt)
+    (λ c. search needs)
+    (λ c κs. tt)
+    (λ c. search needs)
+    (λ c κs. tt)
+    (λ c. search needs)
+    (λ c κs. tt)
+    returns
+    returns-2
+    returns-3
+    returns-4
+    returns-5
+    returns-6
+    returns-7
+    returns-8)

@@ -1,0 +1,13 @@
+pub mod Answers
+pub mod Places
+pub mod Headers
+pub mod Alarm
+pub mod Chunk
+pub mod Reply
+pub mod Download
+pub mod Upload
+pub mod Segment
+pub mod Information
+pub mod Storage
+pub mod Run
+pub mod Examples

@@ -1,0 +1,133 @@
+// Judging a reply: any bytes go in, one of document 01's numbers comes out, by the rules of "Judging a reply" in their order,
+// and the data buffer holds the chunk that the rules name. The Rust's coe/mod.rs: mailbox_write_read, sdo_read and
+// send_sdo_info_service. Here: what a judgement says, and its answer in numbers; a module for each rule.
+ghost use mathlib.Core.Path.{_≡_};
+ghost use Rattle.judge.specs.Answers.{plainOf, doneWith, doneOr, answerOf};
+
+pub mod alarm;
+pub mod chunk;
+pub mod download;
+pub mod headers;
+pub mod information;
+mod places;
+pub mod segment;
+pub mod storage;
+pub mod upload;
+
+pub use download::judge_download;
+pub use information::judge_list;
+pub use segment::judge_segment;
+pub use storage::store;
+pub use upload::judge_upload;
+
+// A chunk is the reply's len bytes from byte `from` on; sum is the earlier chunks and this one.
+pub enum Verdict {
+    Refused(u8),
+    Emergency {
+        code: u16,
+        register: u8,
+    },
+    Aborted {
+        code: u32,
+        index: u16,
+        sub: u8,
+    },
+    Done {
+        from: u8,
+        len: u16,
+    },
+    SegmentsFollow,
+    Segment {
+        from: u8,
+        len: u16,
+        sum: u32,
+        last: bool,
+    },
+    Fragment {
+        from: u8,
+        len: u16,
+        sum: u32,
+        last: bool,
+    },
+    ReplyDue,
+}
+
+// The table's number and the values that go with it, 0 where one plays no part.
+#[repr(C)]
+pub struct Answer {
+    pub number: u8,
+    pub sub: u8,
+    pub index: u16,
+    pub code: u32,
+    pub length: u32,
+}
+
+// An answer of a number alone.
+pub fn plain(number: u8) -> Answer
+    ensures { λ r. ⌜ r ≡ plainOf number ⌝ }
+{
+    Answer {
+        number,
+        sub: 0,
+        index: 0,
+        code: 0,
+        length: 0,
+    }
+}
+
+fn done(length: u32) -> Answer
+    ensures { λ r. ⌜ r ≡ doneWith length ⌝ }
+{
+    Answer {
+        number: 0x00,
+        sub: 0,
+        index: 0,
+        code: 0,
+        length,
+    }
+}
+
+// Done after the last chunk, and before it the number of what is due.
+fn done_or(last: bool, length: u32, number: u8) -> Answer
+    ensures { λ r. ⌜ r ≡ doneOr last length number ⌝ }
+{
+    if last { done(length) } else { plain(number) }
+}
+
+// Each case's number and values.
+pub fn answer_of(verdict: Verdict) -> Answer
+    ensures { λ r. ⌜ r ≡ answerOf verdict ⌝ }
+{
+    match verdict {
+        Verdict::Refused(number) => plain(number),
+        Verdict::Emergency { code, register } => Answer {
+            number: 0x21,
+            sub: register,
+            index: 0,
+            code: code as u32,
+            length: 0,
+        },
+        Verdict::Aborted { code, index, sub } => Answer {
+            number: 0x22,
+            sub,
+            index,
+            code,
+            length: 0,
+        },
+        Verdict::Done { from: _, len } => done(len as u32),
+        Verdict::SegmentsFollow => plain(0x01),
+        Verdict::Segment {
+            from: _,
+            len: _,
+            sum,
+            last,
+        } => done_or(last, sum, 0x01),
+        Verdict::Fragment {
+            from: _,
+            len: _,
+            sum,
+            last,
+        } => done_or(last, sum, 0x02),
+        Verdict::ReplyDue => plain(0x02),
+    }
+}

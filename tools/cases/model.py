@@ -1,0 +1,144 @@
+"""Document 01's rules in Python, written from its text and from nothing else: request frames, the judgement of one reply, reads.
+
+What the project's cases expect is computed here, and held against the answers of the published Rust (vectors.tsv)."""
+
+TYPES = {0, 1, 2, 3, 4, 5, 15}
+SERVICES = set(range(1, 9))
+SPECIFIERS = {0, 1, 2, 3, 4}
+OPERATIONS = set(range(1, 8))
+
+
+def word(b, at):
+    return int.from_bytes(b[at:at + 2], "little")
+
+
+def long(b, at):
+    return int.from_bytes(b[at:at + 4], "little")
+
+
+# ---- requests: the bytes that each packs
+
+def head(length, counter, service):
+    return bytes([length, 0, 0, 0, 0, 3 | (counter & 7) << 4, 0, service << 4])
+
+
+def upload(counter, index, sub, complete):
+    sub = 1 if complete else sub
+    return head(10, counter, 2) + bytes([complete << 4 | 2 << 5, index & 255, index >> 8, sub])
+
+
+def download(counter, index, sub, complete, data):
+    sub = 1 if complete else sub
+    first = 3 | (4 - len(data)) << 2 | complete << 4 | 1 << 5
+    return head(10, counter, 2) + bytes([first, index & 255, index >> 8, sub]) + data.ljust(4, b"\0")
+
+
+def segment(counter, toggle):
+    return head(10, counter, 2) + bytes([toggle << 4 | 3 << 5])
+
+
+def object_list(counter, kind):
+    return head(8, counter, 8) + bytes([1, 0, 0, 0, kind & 255, kind >> 8])
+
+
+def written(good, size, frame):
+    """The number of a writer, and the buffer's new bytes or None: 15 before 16."""
+    if not good:
+        return 0x15, None
+    if not 16 <= size <= 1486:
+        return 0x16, None
+    return 0x02, frame.ljust(size, b"\0")
+
+
+# ---- one reply: (number, values, chunk or None); values are (sub, index, code)
+
+NONE = (0, 0, 0)
+
+
+def alarm(r):
+    if r[7] >> 4 == 1:
+        return (0x20, NONE, None) if len(r) < 20 else (0x21, (r[14], 0, word(r, 12)), None)
+    if r[8] >> 5 == 4:
+        return (0x20, NONE, None) if len(r) < 16 else (0x22, (r[11], word(r, 9), long(r, 12)), None)
+    return None
+
+
+def decodable(r):
+    return len(r) >= 12 and r[5] & 15 in TYPES and r[7] >> 4 in SERVICES
+
+
+def sdo_reply(r, index, sub, rest):
+    if not (decodable(r) and r[8] >> 5 in SPECIFIERS):
+        return 0x20, NONE, None
+    raised = alarm(r)
+    if raised:
+        return raised
+    if r[5] & 15 != 3 or index is not None and (word(r, 9) != index or r[11] != sub):
+        return 0x23, NONE, None
+    return rest(r)
+
+
+def download_reply(r, index, sub):
+    return sdo_reply(r, index, sub, lambda r: (0x20, NONE, None) if len(r) < 16 else (0x00, NONE, b""))
+
+
+def upload_reply(r, index, sub, n):
+    def rest(r):
+        if r[8] & 2:
+            p = 4 - (r[8] >> 2 & 3)
+            return (0x25, NONE, None) if 12 + p > len(r) else (0x00, NONE, r[12:12 + p])
+        if len(r) < 16:
+            return 0x20, NONE, None
+        if long(r, 12) > n:
+            return 0x24, NONE, None
+        d = max(word(r, 0) - 10, 0)
+        if long(r, 12) <= d:
+            return (0x25, NONE, None) if 16 + d > len(r) else (0x00, NONE, r[16:16 + d])
+        return 0x01, NONE, None
+    return sdo_reply(r, index, sub, rest)
+
+
+def segment_reply(r, earlier, n):
+    def rest(r):
+        if word(r, 0) < 3:
+            return 0x26, NONE, None
+        c = word(r, 0) - 3
+        if c == 7:
+            c -= r[8] >> 1 & 7
+        if c > 0 and 12 + c > len(r) or earlier + c > n:
+            return 0x25, NONE, None
+        return (0x00 if r[8] & 1 else 0x01), NONE, r[12:12 + c]
+    return sdo_reply(r, None, None, rest)
+
+
+def list_reply(r, begun, earlier, n):
+    if not (decodable(r) and r[8] & 127 in OPERATIONS):
+        return 0x20, NONE, None
+    if r[8] & 127 != 2:
+        return 0x02, NONE, None
+    if word(r, 0) < 8:
+        return 0x26, NONE, None
+    c = word(r, 0) - 8
+    at = 12 if begun else 14
+    if c > 0 and at + c > len(r) or earlier + c > n:
+        return 0x25, NONE, None
+    return (0x02 if r[8] & 128 else 0x00), NONE, r[at:at + c]
+
+
+# ---- reads of a finished payload
+
+def typed(payload, width, signed):
+    """The value as 32 bits, or None."""
+    if len(payload) < width:
+        return None
+    return int.from_bytes(payload[:width], "little", signed=signed) & 0xffffffff
+
+
+def item(payload, at):
+    if len(payload) % 2 or len(payload) - at < 2:
+        return None
+    return word(payload, at), at + 2
+
+
+def quantities(payload):
+    return None if len(payload) < 10 else [word(payload, i) for i in range(0, 10, 2)]
