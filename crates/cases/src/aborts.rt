@@ -38,7 +38,7 @@ fn name(code: CoeAbortCode) {
     }
 }
 
-pub fn abort_code(case: &[u8]) {
+pub(crate) fn abort_code(case: &[u8]) {
     let code = CoeAbortCode::from_number(wire::long_at(case, 1));
     show::number(code.number() as u64, 8);
     show::words(b" ");

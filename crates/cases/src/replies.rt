@@ -28,7 +28,7 @@ fn judged(verdict: Verdict, reply: &[u8], earlier: usize, n: usize, buffer: &mut
     }
 }
 
-pub fn upload(case: &[u8], buffer: &mut [u8]) {
+pub(crate) fn upload(case: &[u8], buffer: &mut [u8]) {
     if 8 <= case.len() {
         let n = wire::long_at(case, 4);
         let verdict = judge::judge_upload(
@@ -41,7 +41,7 @@ pub fn upload(case: &[u8], buffer: &mut [u8]) {
     }
 }
 
-pub fn download(case: &[u8], buffer: &mut [u8]) {
+pub(crate) fn download(case: &[u8], buffer: &mut [u8]) {
     if 8 <= case.len() {
         let n = wire::long_at(case, 4);
         let verdict = judge::judge_download(
@@ -53,7 +53,7 @@ pub fn download(case: &[u8], buffer: &mut [u8]) {
     }
 }
 
-pub fn segment(case: &[u8], buffer: &mut [u8]) {
+pub(crate) fn segment(case: &[u8], buffer: &mut [u8]) {
     if 9 <= case.len() {
         let earlier = wire::long_at(case, 1);
         let n = wire::long_at(case, 5);
@@ -62,7 +62,7 @@ pub fn segment(case: &[u8], buffer: &mut [u8]) {
     }
 }
 
-pub fn list(case: &[u8], buffer: &mut [u8]) {
+pub(crate) fn list(case: &[u8], buffer: &mut [u8]) {
     if 10 <= case.len() {
         let begun = wire::byte(case, 1) == 1;
         let earlier = wire::long_at(case, 2);

@@ -17,7 +17,7 @@ fn written(wrote: Wrote, size: usize, buffer: &[u8]) {
     show::next(wire::byte(buffer, size) as u64, 2);
 }
 
-pub fn upload(case: &[u8], buffer: &mut [u8]) {
+pub(crate) fn upload(case: &[u8], buffer: &mut [u8]) {
     let size = wire::word_at(case, 6) as usize;
     if size <= buffer.len() {
         show::fill(buffer, FILL);
@@ -32,7 +32,7 @@ pub fn upload(case: &[u8], buffer: &mut [u8]) {
     }
 }
 
-pub fn download(case: &[u8], buffer: &mut [u8]) {
+pub(crate) fn download(case: &[u8], buffer: &mut [u8]) {
     let size = wire::word_at(case, 6) as usize;
     if size <= buffer.len() {
         if 8 <= case.len() {
@@ -50,7 +50,7 @@ pub fn download(case: &[u8], buffer: &mut [u8]) {
     }
 }
 
-pub fn segment(case: &[u8], buffer: &mut [u8]) {
+pub(crate) fn segment(case: &[u8], buffer: &mut [u8]) {
     let size = wire::word_at(case, 3) as usize;
     if size <= buffer.len() {
         show::fill(buffer, FILL);
@@ -63,7 +63,7 @@ pub fn segment(case: &[u8], buffer: &mut [u8]) {
     }
 }
 
-pub fn list(case: &[u8], buffer: &mut [u8]) {
+pub(crate) fn list(case: &[u8], buffer: &mut [u8]) {
     let size = wire::word_at(case, 4) as usize;
     if size <= buffer.len() {
         show::fill(buffer, FILL);
@@ -101,7 +101,7 @@ fn request(case: &[u8]) -> Request {
     }
 }
 
-pub fn response(case: &[u8]) {
+pub(crate) fn response(case: &[u8]) {
     if services::validate_response(request(case), wire::word_at(case, 6), wire::byte(case, 8)) {
         show::words(b"01");
     } else {

@@ -1,21 +1,21 @@
 // What is printed of a case.
 use libc::STDOUT_FILENO;
 
-pub fn words(text: &[u8]) {
+pub(crate) fn words(text: &[u8]) {
     io::write_all(STDOUT_FILENO, text);
 }
 
-pub fn number(n: u64, width: usize) {
+pub(crate) fn number(n: u64, width: usize) {
     io::print_hex(STDOUT_FILENO, n, width);
 }
 
-pub fn next(n: u64, width: usize) {
+pub(crate) fn next(n: u64, width: usize) {
     words(b" ");
     number(n, width);
 }
 
 // The first `most` bytes.
-pub fn bytes(s: &[u8], most: usize) {
+pub(crate) fn bytes(s: &[u8], most: usize) {
     let mut i = 0;
     while i < s.len() && i < most {
         number(s[i] as u64, 2);
@@ -23,7 +23,7 @@ pub fn bytes(s: &[u8], most: usize) {
     }
 }
 
-pub fn fill(s: &mut [u8], b: u8) {
+pub(crate) fn fill(s: &mut [u8], b: u8) {
     let mut i = 0;
     while i < s.len() {
         s[i] = b;
@@ -32,7 +32,7 @@ pub fn fill(s: &mut [u8], b: u8) {
 }
 
 // A number that a change of any byte, or of their order, changes.
-pub fn check(s: &[u8]) -> u32 {
+pub(crate) fn check(s: &[u8]) -> u32 {
     let mut sum = 0;
     let mut i = 0;
     while i < s.len() {

@@ -40,7 +40,7 @@ fn signed(read: SignedRead) {
     }
 }
 
-pub fn typed(case: &[u8]) {
+pub(crate) fn typed(case: &[u8]) {
     if 2 <= case.len() {
         let payload = &case[2..];
         match wire::byte(case, 1) {
@@ -60,7 +60,7 @@ fn position(case: &[u8]) -> u64 {
     low + 0x1_0000_0000 * high
 }
 
-pub fn item(case: &[u8]) {
+pub(crate) fn item(case: &[u8]) {
     if 9 <= case.len() {
         let at = position(case);
         match reads::list::item_at(&case[9..], at as usize) {
@@ -78,7 +78,7 @@ pub fn item(case: &[u8]) {
     }
 }
 
-pub fn quantities(case: &[u8]) {
+pub(crate) fn quantities(case: &[u8]) {
     if 1 <= case.len() {
         match reads::quantities::read_quantities(&case[1..]) {
             QuantitiesRead::Counts(c) => {
