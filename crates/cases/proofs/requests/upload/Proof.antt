@@ -5,63 +5,24 @@ use borrow.Author.Needs.{needs}
 use Rattle.cases.proofs.requests.upload.Statement.{statement}
 use Rattle.cases.proofs.requests.upload.Tie as tie
 
-word-at-requires : tie.Need-word-at-requires
-word-at-requires c κs = search needs
-
-cast-size : tie.Need-cast-size
-cast-size c = search needs
-
-fill-requires : tie.Need-fill-requires
-fill-requires c κs = search needs
-
-byte-requires : tie.Need-byte-requires
-byte-requires c κs = search needs
-
-word-at-requires-2 : tie.Need-word-at-requires-2
-word-at-requires-2 c κs = search needs
-
-byte-requires-2 : tie.Need-byte-requires-2
-byte-requires-2 c κs = search needs
-
-byte-requires-3 : tie.Need-byte-requires-3
-byte-requires-3 c κs = search needs
-
-slice-relend-prefix-upload-frame : tie.Need-slice-relend-prefix-upload-frame
-slice-relend-prefix-upload-frame c = search needs
-
 slice-aggregate-upload-frame : tie.Need-slice-aggregate-upload-frame
 slice-aggregate-upload-frame c = simp length-take (omega arith)
-
-upload-frame-requires : tie.Need-upload-frame-requires
-upload-frame-requires c κs = search needs
-
-written-requires : tie.Need-written-requires
-written-requires c κs = search needs
-
-same-length : tie.Need-same-length
-same-length c = search needs
-
-returns : tie.Need-returns
-returns c = search needs
-
-returns-2 : tie.Need-returns-2
-returns-2 c = search needs
 
 pub upload-spec : {M : Type 1} → statement M
 upload-spec =
     tie.close
     (tie.spec
-    word-at-requires
-    cast-size
-    fill-requires
-    byte-requires
-    word-at-requires-2
-    byte-requires-2
-    byte-requires-3
-    slice-relend-prefix-upload-frame
+    (λ c κs. tt)
+    (λ c. search needs)
+    (λ c κs. tt)
+    (λ c κs. tt)
+    (λ c κs. tt)
+    (λ c κs. tt)
+    (λ c κs. tt)
+    (λ c. search needs)
     slice-aggregate-upload-frame
-    upload-frame-requires
-    written-requires
-    same-length
-    returns
-    returns-2)
+    (λ c κs. tt)
+    (λ c κs. tt)
+    (λ c. search needs)
+    (λ c. search needs)
+    (λ c. search needs))
