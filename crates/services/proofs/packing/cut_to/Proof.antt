@@ -1,12 +1,12 @@
--- `services::cut_to` meets its contract: the first bytes of a value are what is left of it by a power of 256.
+-- `services::packing::cut_to` meets its contract: the first bytes of a value are what is left of it by a power of 256.
 use mathlib.Core.Path.{_≡_, sym, ap, _∙_}
 use Prim.Native.Nat.{ℕ, _%_, _^_, _<_, _≤_}
 use native.Mathlib.Nat.{mod-one, mod-eq-of-lt, lt-of-lt-of-le, pow-le-pow-right}
 use native.Mathlib.Omega.{arith}
 use lib.Dec.{lit<}
 use Rattle.services.specs.Requests.{cutTo}
-use Rattle.services.proofs.cut_to.Statement.{statement}
-use Rattle.services.proofs.cut_to.Tie as tie
+use Rattle.services.proofs.packing.cut_to.Statement.{statement}
+use Rattle.services.proofs.packing.cut_to.Tie as tie
 
 returns : tie.Need-returns
 unfolding cutTo

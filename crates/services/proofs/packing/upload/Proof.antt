@@ -1,8 +1,8 @@
--- `services::upload` meets its contract: its headers joined are the frame.
+-- `services::packing::upload` meets its contract: its headers joined are the frame.
 use mathlib.Core.Path.{_∙_}
 use Rattle.services.proofs.Requests.{upload-is}
-use Rattle.services.proofs.upload.Statement.{statement}
-use Rattle.services.proofs.upload.Tie as tie
+use Rattle.services.proofs.packing.upload.Statement.{statement}
+use Rattle.services.proofs.packing.upload.Tie as tie
 
 returns : tie.Need-returns
 returns c =
