@@ -1,0 +1,8 @@
+pub mod Asked
+pub mod Numbers
+pub mod Chunks
+pub mod Lives
+pub mod Payload
+pub mod Refusals
+pub mod Lived
+pub mod Cut
