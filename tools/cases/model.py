@@ -1,6 +1,7 @@
-"""Document 01's rules in Python, written from its text and from nothing else: request frames, the judgement of one reply, reads.
+"""Document 01's rules in Python: request frames, the judgement of one reply, reads.
 
-What the project's cases expect is computed here, and held against the answers of the published Rust (vectors.tsv)."""
+What the project's cases expect is computed here. The judgement is taken over from the model with which vectors.tsv was made, so
+that its agreement with that table is no second opinion; the second opinion is the Rust's, in the rows tagged R."""
 
 TYPES = {0, 1, 2, 3, 4, 5, 15}
 SERVICES = set(range(1, 9))
