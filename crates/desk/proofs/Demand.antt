@@ -16,7 +16,7 @@ use Rattle.desk.specs.declared.Desk.{Desk}
 use Rattle.desk.proofs.Held.{view-desk}
 use Rattle.desk.proofs.Kept.{good-fresh, good-step}
 
-number-is : (o : Outcome coeMachine) → answerFor o .number ≡ number coeMachine coeNumbered o
+pub number-is : (o : Outcome coeMachine) → answerFor o .number ≡ number coeMachine coeNumbered o
 unfolding answerFor number
 number-is (refused n) = refl
 number-is entered = refl
@@ -24,18 +24,19 @@ number-is (sent f) = refl
 number-is (received a) = refl
 number-is left = refl
 
-abbrev says : Call coeMachine → Outcome coeMachine → Told
+-- what the desk tells of an outcome
+abbrev pub says : Call coeMachine → Outcome coeMachine → Told
 says k o = (answerFor o, lentAfter (lentBy k) o)
 
-answered-is : (d : Queue) (k : Call coeMachine) → isAnswered (says k (step coeMachine d k .1)) ≡ isAccepted coeMachine (step coeMachine d k .1)
+pub answered-is : (d : Queue) (k : Call coeMachine) → isAnswered (says k (step coeMachine d k .1)) ≡ isAccepted coeMachine (step coeMachine d k .1)
 answered-is d k =
     ap (λ (n : ℕ). not (is1x n)) (number-is (step coeMachine d k .1)) ∙ sym (accepted-numbers coeMachine coeNumbered d k)
 
-pass-is : (d : Desk) → passAt (d .counter) ≡ viewOf d .pass
+pub pass-is : (d : Desk) → passAt (d .counter) ≡ viewOf d .pass
 unfolding viewOf
 pass-is d = refl
 
-pub desk-models : Models deskStand isAnswered
+abbrev pub desk-models : Models deskStand isAnswered
 desk-models = record {
   Good = Good;
   view = viewOf;

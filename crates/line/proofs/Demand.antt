@@ -133,6 +133,10 @@ module _ (M : Machine) where
   good (k ∷ ks) d D =
       good-move (trace (lineStand M) (step M d k .0) ks) (move M d k) D (good ks (step M d k .0) (distinct-move M (move M d k) D))
 
+  pub chain-ahead : (ks : List (Call M)) (d : Desk M) → Distinct (d .line)
+      → let xs = keep okay (trace (lineStand M) d ks) in Chain M (d .pass) (waiting M (d .line) xs ++ entering M xs)
+  chain-ahead ks d D = good ks d D .chain
+
   pub demand3 : Demand3 M
   unfolding listed entering waiting
-  demand3 ks = chain-listed M _ first (good ks (at M [] first) tt .chain)
+  demand3 ks = chain-listed M _ first (chain-ahead ks (at M [] first) tt)

@@ -9,6 +9,8 @@ pub mod Every
 pub mod Parts
 pub mod Quiet
 pub mod Demand
+pub mod Apart
+pub mod Ones
 pub mod Served
 pub mod Told
 pub mod Refine

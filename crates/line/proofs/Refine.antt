@@ -3,14 +3,14 @@
 use mathlib.Core.Path.{_≡_, refl, sym, ap, ap₂, _∙_, subst}
 use mathlib.Core.Bool.{Bool}
 use mathlib.Core.List.{List, [], _∷_, map}
-use Rattle.line.specs.Lists.{Each}
+use Rattle.line.specs.Lists.{Each, keep}
 use Rattle.line.specs.Machine.{Machine}
 use Rattle.line.specs.Desk.{Pass, first, Call, Outcome, Desk, freshAt, step}
 use Rattle.line.specs.Stand.{Stand, Event, calls, trace, after, lineStand, isAccepted}
-use Rattle.line.specs.Transfers.{listed}
+use Rattle.line.specs.Transfers.{transfers, listed}
 use Rattle.line.specs.Alone.{oneByOne, listedOf, Demand3Of, Begins, at-first, behind}
 use Rattle.line.proofs.Demand.{demand3}
-use Rattle.line.proofs.Told.{retold, all-calls-retold, listed-retold}
+use Rattle.line.proofs.Told.{retold, all-calls-retold, entries-retold, listed-retold}
 
 pub record Models {M : Machine} {T : Type 0} (S : Stand M T) (ok : T → Bool) : Type 1 where
   pub Good : S .State → Type 0
@@ -82,6 +82,13 @@ module _ {M : Machine} {T : Type 0} (S : Stand M T) (ok : T → Bool) (H : Model
   unfolding trace
   agree d [] = tt
   agree d (k ∷ ks) = (accepts d k, agree (step M d k .0) ks)
+
+  pub entries-is : (s : S .State) (ks : List (Call M)) → Good s
+      → transfers (keep (λ x. ok (x .told)) (trace S s ks))
+      ≡ map (map (retold says)) (transfers (keep (λ x. isAccepted M (x .told)) (trace (lineStand M) (view s) ks)))
+  entries-is s ks g =
+      ap (λ (xs : Events). transfers (keep (λ x. ok (x .told)) xs)) (trace-is s ks g)
+      ∙ entries-retold says ok (isAccepted M) (trace (lineStand M) (view s) ks) (agree (view s) ks)
 
   pub listed-is : (ks : List (Call M)) → listedOf S ok ks ≡ map (map (retold says)) (listedOf (lineStand M) (isAccepted M) ks)
   listed-is ks =

@@ -53,11 +53,15 @@ module _ {M : Machine} {T U : Type 0} (says : Call M → T → U) where
   sent-retold [] = refl
   sent-retold (x ∷ xs) = ap (λ (b : Bool). either (isSend (x .call)) b) (sent-retold xs)
 
-  pub listed-retold : (ok : U → Bool) (ok₀ : T → Bool) (xs : List (Event M T)) → Each (λ x. ok (retold x .told) ≡ ok₀ (x .told)) xs
-      → listed ok (map retold xs) ≡ map (map retold) (listed ok₀ xs)
-  unfolding listed
-  listed-retold ok ok₀ xs h =
-      let ys = keep (λ (x : Event M T). ok₀ (x .told)) xs in
-      ap (λ (zs : List (Event M U)). keep sentFrame (transfers zs)) (keep-map retold (λ x. ok (x .told)) (λ x. ok₀ (x .told)) xs h)
-      ∙ ap (keep sentFrame) (transfers-retold ys)
-      ∙ keep-map (map retold) sentFrame sentFrame (transfers ys) (each _ sent-retold (transfers ys))
+  -- where the two ways agree on which calls were accepted
+  module _ (ok : U → Bool) (ok₀ : T → Bool) (xs : List (Event M T)) (h : Each (λ x. ok (retold x .told) ≡ ok₀ (x .told)) xs) where
+    pub entries-retold : transfers (keep (λ x. ok (x .told)) (map retold xs)) ≡ map (map retold) (transfers (keep (λ x. ok₀ (x .told)) xs))
+    entries-retold =
+        ap transfers (keep-map retold (λ x. ok (x .told)) (λ x. ok₀ (x .told)) xs h)
+        ∙ transfers-retold (keep (λ (x : Event M T). ok₀ (x .told)) xs)
+
+    pub listed-retold : listed ok (map retold xs) ≡ map (map retold) (listed ok₀ xs)
+    unfolding listed
+    listed-retold =
+        let ts = transfers (keep (λ (x : Event M T). ok₀ (x .told)) xs) in
+        ap (keep sentFrame) entries-retold ∙ keep-map (map retold) sentFrame sentFrame ts (each _ sent-retold ts)

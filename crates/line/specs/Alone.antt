@@ -6,13 +6,15 @@
 --
 -- `ok` says of what was told whether the call was accepted. It is not the stand's to choose. Assumes nothing.
 use mathlib.Core.Path.{_≡_}
-use mathlib.Core.Bool.{Bool}
+use mathlib.Core.Bool.{Bool, true}
 use mathlib.Core.List.{List, [], _∷_, map}
-use Rattle.line.specs.Lists.{Each}
+use Rattle.wire.specs.Words.{within}
+use Rattle.line.specs.Lists.{Each, keep}
 use Rattle.line.specs.Machine.{Machine}
-use Rattle.line.specs.Desk.{Pass, first, Call}
+use Rattle.line.specs.Desk.{Pass, first, Call, Outcome, Desk, freshAt}
 use Rattle.line.specs.Stand.{Stand, Event, calls, trace, after, lineStand, isAccepted}
-use Rattle.line.specs.Transfers.{listed}
+use Rattle.line.specs.Transfers.{transfers, listed}
+use Rattle.line.specs.Sound.{Distinct}
 
 module _ {M : Machine} {T : Type 0} (S : Stand M T) where
   -- one after another, each alone at a fresh desk, each beginning at the counter where the one before stopped
@@ -56,3 +58,15 @@ module _ {M : Machine} {T : Type 0} (S : Stand M T) where
 -- demand 3 of the desk of `Desk`, whatever the machine
 abbrev pub Demand3 : Machine → Type 0
 Demand3 M = Demand3Of (lineStand M) (isAccepted M)
+
+-- ---- the same from any desk, and of every transfer that enters there, whether or not it sends
+
+-- the events of one transfer are what it gets alone at a fresh desk, whose first frame has a counter of 1 to 7
+pub record AloneOf (M : Machine) (t : List (Event M (Outcome M))) : Type 0 where
+  pub from : Pass
+  pub counts : within 1 7 (from .counter) ≡ true
+  pub run : trace (lineStand M) (freshAt M from) (calls t) ≡ t
+
+abbrev pub EachAlone : Machine → Type 0
+EachAlone M = (d : Desk M) → Distinct (d .line) → within 1 7 (d .pass .counter) ≡ true → (ks : List (Call M))
+    → Each (AloneOf M) (transfers (keep (λ x. isAccepted M (x .told)) (trace (lineStand M) d ks)))

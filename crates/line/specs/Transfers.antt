@@ -1,11 +1,12 @@
 -- The transfers of a sequence of calls, read off the accepted calls with no look at any desk. "A transfer is one entry": the
 -- calls for its seat are its own until the next entry there. Assumes nothing.
+use mathlib.Core.Path.{_≡_}
 use Prim.Native.Nat.{ℕ}
 use mathlib.Core.Bool.{Bool, true, false}
 use mathlib.Core.List.{List, [], _∷_, _++_}
 use lib.Dec.{eqb}
 use Rattle.wire.specs.Words.{pick}
-use Rattle.line.specs.Lists.{keep, someOf}
+use Rattle.line.specs.Lists.{Each, keep, someOf}
 use Rattle.line.specs.Machine.{Machine}
 use Rattle.line.specs.Desk.{Call, enter, send, receive, leave}
 use Rattle.line.specs.Stand.{Event}
@@ -46,3 +47,17 @@ module _ {M : Machine} where
     -- the transfers that sent a frame, by order of entry, each with its own accepted calls and what was told of them
     unfoldable pub listed : (T → Bool) → List (Event M T) → List (List (Event M T))
     listed ok xs = keep sentFrame (transfers (keep (λ x. ok (x .told)) xs))
+
+    -- a call that belongs to the transfer at seat s
+    pub record Later (ok : T → Bool) (s : ℕ) (x : Event M T) : Type 0 where
+      pub seat : eqb s (seatOf (x .call)) ≡ true
+      pub same : isEnter (x .call) ≡ false
+      pub accepted : ok (x .told) ≡ true
+
+    -- one entry, and accepted calls of its own
+    unfoldable pub OneTransfer : (T → Bool) → List (Event M T) → Type 0
+    OneTransfer ok [] = ⊥
+    OneTransfer ok (x ∷ xs) =
+        (isEnter (x .call) ≡ true)
+        × (ok (x .told) ≡ true)
+        × Each (Later ok (seatOf (x .call))) xs

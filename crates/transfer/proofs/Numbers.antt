@@ -1,7 +1,7 @@
 -- The machine's numbers: 15 for an entry, 16 for a buffer or a reply that is too long, and no 1x for a reply that is judged.
 -- Assumes nothing.
 use mathlib.Core.Path.{_≡_, refl, sym, ap, _∙_}
-use mathlib.Core.Bool.{Bool, true, false, false≢true}
+use mathlib.Core.Bool.{Bool, true, false, not, false≢true}
 use mathlib.Core.List.{List, [], _∷_}
 use mathlib.Core.Option.{Option}
 use Prim.Native.Nat.{ℕ}
@@ -19,49 +19,71 @@ use Rattle.judge.specs.Information.{judgeList}
 use Rattle.judge.specs.declared.Verdict.{Verdict}
 use Rattle.judge.specs.declared.Verdict.the-variants.{Refused}
 use Rattle.judge.proofs.Numbers.{upload-number, download-number, segment-number, list-number}
-use Rattle.line.specs.Lists.{Each}
 use Rattle.line.specs.Machine.{Ruling, refuse, accept}
 use Rattle.line.specs.Numbers.{is1x, RefusesOnly, Numbered}
 use Rattle.line.proofs.Rulings.{pick-accept, accept-eq}
 use Rattle.line.proofs.Refusals.{only-pick}
 use Rattle.transfer.specs.Entry.{unfitOf}
 use Rattle.transfer.specs.Due.{dueOf}
-use Rattle.transfer.specs.Judgement.{judgeReply, goesOn, settled, judgedAs}
+use Rattle.transfer.specs.Judgement.{judgeReply, goesOn, settled, judgedAs, judgedNumbers}
 use Rattle.transfer.specs.Coe.{Lends, Gives, replyIn, judged, receipt, beginsWith, sendsWith, receivesWith, coeMachine}
 use Rattle.transfer.specs.declared.Order.{Order}
 use Rattle.transfer.specs.declared.Transfer.{Transfer}
 use Rattle.transfer.specs.declared.due.Reply.{Reply}
 use Rattle.transfer.specs.declared.due.Reply.the-variants as reply
 
-abbrev None1x : List ℕ → Type 0
-None1x = Each (λ a. is1x a ≡ false)
+abbrev pub allOf : (ℕ → Bool) → List ℕ → Bool
+allOf p [] = true
+allOf p (a ∷ l) = both (p a) (allOf p l)
 
-among : (l : List ℕ) (n : ℕ) → None1x l → oneOf l n ≡ true → is1x n ≡ false
-among [] n E h = absurd (false≢true h)
-among (a ∷ l) n E h = by (eqb n a) (λ y. ap is1x (eqb-true n a y) ∙ E .0) (λ m. among l n (E .1) (rw m at h))
+-- what is true of all of some numbers is true of one of them
+pub among : (p : ℕ → Bool) (l : List ℕ) (n : ℕ) → allOf p l ≡ true → oneOf l n ≡ true → p n ≡ true
+among p [] n E h = absurd (false≢true h)
+among p (a ∷ l) n E h =
+    by (p a)
+    (λ z. by (eqb n a) (λ y. ap p (eqb-true n a y) ∙ z) (λ m. among p l n (rw z at E) (rw m at h)))
+    (λ z. absurd (false≢true (rw z at E)))
 
-reply-number : (due : Reply) (sum n : ℕ) (s : List ℕ) → is1x (answerOf (judgeReply due sum n s) .number) ≡ false
+abbrev Listed : ℕ → Type 0
+Listed n = oneOf judgedNumbers n ≡ true
+
+-- a number of a reply alone: 27 is the budget's
+abbrev pub ofReply : ℕ → Bool
+ofReply n = both (oneOf judgedNumbers n) (not (eqb n 0x27))
+
+pub reply-number : (due : Reply) (sum n : ℕ) (s : List ℕ) → ofReply (answerOf (judgeReply due sum n s) .number) ≡ true
 unfolding judgeReply
-reply-number (reply.Upload index sub) sum n s =
-    among uploadNumbers (answerOf (judgeUpload index sub n s) .number) (refl, (refl, (refl, (refl, (refl, (refl, (refl, (refl, tt)))))))) (upload-number index sub n s)
-reply-number (reply.Download index sub) sum n s =
-    among downloadNumbers (answerOf (judgeDownload index sub s) .number) (refl, (refl, (refl, (refl, (refl, tt))))) (download-number index sub s)
-reply-number reply.Segment sum n s =
-    among segmentNumbers (answerOf (judgeSegment sum n s) .number) (refl, (refl, (refl, (refl, (refl, (refl, (refl, (refl, tt)))))))) (segment-number sum n s)
-reply-number (reply.Fragment begun) sum n s =
-    among listNumbers (answerOf (judgeList begun sum n s) .number) (refl, (refl, (refl, (refl, (refl, tt))))) (list-number begun sum n s)
+reply-number (reply.Upload index sub) sum n s = among ofReply uploadNumbers (answerOf (judgeUpload index sub n s) .number) refl (upload-number index sub n s)
+reply-number (reply.Download index sub) sum n s = among ofReply downloadNumbers (answerOf (judgeDownload index sub s) .number) refl (download-number index sub s)
+reply-number reply.Segment sum n s = among ofReply segmentNumbers (answerOf (judgeSegment sum n s) .number) refl (segment-number sum n s)
+reply-number (reply.Fragment begun) sum n s = among ofReply listNumbers (answerOf (judgeList begun sum n s) .number) refl (list-number begun sum n s)
 
-settled-number : (spent : Bool) (v : Verdict) → is1x (answerOf v .number) ≡ false → is1x (answerOf (settled spent v) .number) ≡ false
+both-first : (a b : Bool) → both a b ≡ true → a ≡ true
+both-first true b h = refl
+both-first false b h = absurd (false≢true h)
+
+settled-number : (spent : Bool) (v : Verdict) → Listed (answerOf v .number) → Listed (answerOf (settled spent v) .number)
 unfolding settled answerOf
 settled-number spent v h = go (both spent (goesOn v))
   where
-    go : (b : Bool) → is1x (answerOf (pick b (Refused 0x27) v) .number) ≡ false
+    go : (b : Bool) → Listed (answerOf (pick b (Refused 0x27) v) .number)
     go true = refl
     go false = h
 
-pub judged-number : (t : Transfer) (n : ℕ) (s : List ℕ) → is1x (answerOf (judged t n s) .number) ≡ false
+pub judged-number : (t : Transfer) (n : ℕ) (s : List ℕ) → Listed (answerOf (judged t n s) .number)
 unfolding judged judgedAs
-judged-number t n s = settled-number (leb (t .left) 1) _ (reply-number (replyIn (dueOf t)) (t .sum) n s)
+judged-number t n s =
+    let v = judgeReply (replyIn (dueOf t)) (t .sum) n s in
+    settled-number (leb (t .left) 1) v (both-first (oneOf judgedNumbers (answerOf v .number)) _ (reply-number (replyIn (dueOf t)) (t .sum) n s))
+
+not-true : (b : Bool) → not b ≡ true → b ≡ false
+not-true true h = absurd (false≢true h)
+not-true false h = refl
+
+pub not-1x : (t : Transfer) (n : ℕ) (s : List ℕ) → is1x (answerOf (judged t n s) .number) ≡ false
+not-1x t n s =
+    let k = answerOf (judged t n s) .number in
+    not-true (is1x k) (among (λ m. not (is1x m)) judgedNumbers k refl (judged-number t n s))
 
 pub entry-15 : (o : Order) → RefusesOnly 0x15 (beginsWith o)
 unfolding beginsWith
@@ -99,5 +121,6 @@ coeNumbered = record {
   at-send = send-16;
   at-receive = receive-16;
   judged = λ t l r e.
-      ap (λ (x : Gives × Option Transfer). is1x (x .0 .0 .number)) (sym (accepted t l r e .is)) ∙ judged-number t (length (l .1)) (l .0);
+      ap (λ (x : Gives × Option Transfer). is1x (x .0 .0 .number)) (sym (accepted t l r e .is))
+      ∙ not-1x t (length (l .1)) (l .0);
 }

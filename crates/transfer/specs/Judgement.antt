@@ -1,7 +1,7 @@
 -- What a judged reply comes to. Document 01, "Judging a reply". Assumes nothing.
 use Prim.Native.Nat.{ℕ, _-_}
 use mathlib.Core.Bool.{Bool, true, false, not}
-use mathlib.Core.List.{List}
+use mathlib.Core.List.{List, [], _∷_}
 use mathlib.Core.Option.{Option, none, some}
 use lib.Dec.{leb}
 use Rattle.wire.specs.Words.{pick, both}
@@ -43,6 +43,10 @@ settled spent v = pick (both spent (goesOn v)) (Refused 0x27) v
 -- the count reaches the budget where at most one reply is left
 unfoldable pub judgedAs : Transfer → Reply → ℕ → List ℕ → Verdict
 judgedAs t due n s = settled (leb (t .left) 1) (judgeReply due (t .sum) n s)
+
+-- "Numbers the desk gives back": those that a judged reply can be answered
+abbrev pub judgedNumbers : List ℕ
+judgedNumbers = 0x00 ∷ 0x01 ∷ 0x02 ∷ 0x20 ∷ 0x21 ∷ 0x22 ∷ 0x23 ∷ 0x24 ∷ 0x25 ∷ 0x26 ∷ 0x27 ∷ []
 
 -- "Every judged reply counts one against the budget."
 abbrev pub advancedTo : Transfer → ℕ → ℕ → Transfer

@@ -1,0 +1,111 @@
+-- The desk's answers as a table: which condition gives which number, and what each number leaves. `conditions` is document 01's
+-- "Order: enter 10, 11, 15; send and receive 10, 12, 13, 14, 16; leave 10, 12", with the conditions of "Numbers the desk gives back".
+-- Assumes nothing.
+use mathlib.Core.Path.{_≡_}
+use mathlib.Core.Bool.{Bool, true, not}
+use mathlib.Core.List.{List, [], _∷_}
+use mathlib.Core.Option.{Option, none, some}
+use Prim.Native.Nat.{ℕ, _/_}
+use lib.Dec.{eqb, ltb}
+use lib.ListN.{length}
+use Rattle.wire.specs.Words.{within}
+use Rattle.wire.specs.Front.{inFront}
+use Rattle.services.specs.Requests.{packedOf}
+use Rattle.judge.specs.Answers.{plainOf, answerOf}
+use Rattle.judge.specs.Storage.{stored}
+use Rattle.judge.specs.declared.Answer.{Answer}
+use Rattle.line.specs.Line.{Line, seated}
+use Rattle.line.specs.Desk.{Pass, Call, enter, send, receive, leave, freshAt}
+use Rattle.line.specs.Stand.{Stand, after, lineStand}
+use Rattle.line.specs.Numbers.{Test, firstOf, leads, ofHead}
+use Rattle.transfer.specs.Entry.{unfitOf}
+use Rattle.transfer.specs.Due.{dueOf, requestDue}
+use Rattle.transfer.specs.Coe.{Lends, requestIn, judged, coeMachine}
+use Rattle.transfer.specs.declared.Transfer.{Transfer}
+use Rattle.desk.specs.Record.{Queue}
+use Rattle.desk.specs.Stand.{Told, lentBy}
+use Rattle.promises.specs.Standing.{Called}
+
+-- ---- when a call is refused
+
+unfoldable pub conditions : Queue → Called → List Test
+conditions q (enter s o) =
+    -- "seat above 7"
+    (0x10, ltb 7 s)
+    -- "seat taken"
+    ∷ (0x11, seated s (q .line))
+    -- "entry: data length not 1-4, list kind not 1-5, budget 0"
+    ∷ (0x15, unfitOf o)
+    ∷ []
+conditions q (send s b) =
+    (0x10, ltb 7 s)
+    -- "seat empty"
+    ∷ (0x12, not (seated s (q .line)))
+    -- "not at the head"
+    ∷ (0x13, not (leads s (q .line)))
+    ∷ ofHead (q .line) (λ t.
+    -- "the other of send and receive is due"
+    (0x14, not (requestDue t))
+    -- "frame buffer not 16 to 1,486 bytes"
+    ∷ (0x16, not (within 16 1486 (length b)))
+    ∷ [])
+conditions q (receive s l) =
+    (0x10, ltb 7 s)
+    ∷ (0x12, not (seated s (q .line)))
+    ∷ (0x13, not (leads s (q .line)))
+    ∷ ofHead (q .line) (λ t.
+    (0x14, requestDue t)
+    -- "reply above 1,486, N above 131,070"
+    ∷ (0x16, ltb 1486 (length (l .0)))
+    ∷ (0x16, ltb 131070 (length (l .1)))
+    ∷ [])
+conditions q (leave s) =
+    (0x10, ltb 7 s)
+    ∷ (0x12, not (seated s (q .line)))
+    ∷ []
+
+-- ---- what is given back
+
+-- of the head; a desk with nobody in the line refuses before
+unfoldable pub ofFirst : {A : Type 0} → A → (Transfer → A) → Line Transfer → A
+ofFirst a f [] = a
+ofFirst a f (p ∷ l) = f (p .1)
+
+-- the answer, by the first condition that holds; where none does, "answers 01", "answers 02", as the reply is judged, and 03
+unfoldable pub answerBy : Queue → Called → Option ℕ → Answer
+answerBy q k (some n) = plainOf n
+answerBy q (enter s o) none = plainOf 0x01
+answerBy q (send s b) none = plainOf 0x02
+answerBy q (receive s l) none = ofFirst (plainOf 0x12) (λ t. answerOf (judged t (length (l .1)) (l .0))) (q .line)
+answerBy q (leave s) none = plainOf 0x03
+
+-- the lent buffer afterwards: "all unchanged, also for all 1x"; "writes the head's due request with the next counter"; "A frame
+-- stands at the front of the lent buffer; zeros fill the rest"; "Each call writes only its own chunk, at the sum of the earlier ones"
+unfoldable pub bufferBy : Queue → Called → Option ℕ → List ℕ
+bufferBy q k (some n) = lentBy k
+bufferBy q (enter s o) none = []
+bufferBy q (send s b) none =
+    ofFirst b (λ t. inFront (packedOf (q .pass .counter) (requestIn (dueOf t))) (length b)) (q .line)
+bufferBy q (receive s l) none = ofFirst (l .1) (λ t. stored (judged t (length (l .1)) (l .0)) (l .0) (t .sum) (l .1)) (q .line)
+bufferBy q (leave s) none = []
+
+-- ---- of any desk that is offered: the answers that the table gives, after any calls from a fresh desk, whatever its first counter.
+-- What the calls before have made is told by `line`'s desk.
+
+module _ (S : Stand coeMachine Told) where
+  -- what S tells of the call k after the calls ks
+  abbrev pub toldBy : Pass → List Called → Called → Told
+  toldBy p ks k = S .answers (after S (S .fresh p) ks) k
+
+  abbrev queueAfter : Pass → List Called → Queue
+  queueAfter p ks = after (lineStand coeMachine) (freshAt coeMachine p) ks
+
+  -- "Each number is given exactly under its condition."
+  abbrev pub ConditionTable : Type 0
+  ConditionTable = (p : Pass) → within 1 7 (p .counter) ≡ true → (ks : List Called) (k : Called)
+      → let q = queueAfter p ks in toldBy p ks k .0 ≡ answerBy q k (firstOf (conditions q k))
+
+  -- the request and storage rules
+  abbrev pub RequestAndStorage : Type 0
+  RequestAndStorage = (p : Pass) → within 1 7 (p .counter) ≡ true → (ks : List Called) (k : Called)
+      → let q = queueAfter p ks in toldBy p ks k .1 ≡ bufferBy q k (firstOf (conditions q k))
