@@ -4,3 +4,8 @@ pub mod Kept
 pub mod Whole
 pub mod Demand1
 pub mod Table
+pub mod Demand3
+pub mod Computed
+pub mod Examples
+pub mod Worthless
+pub mod One

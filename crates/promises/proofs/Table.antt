@@ -29,7 +29,7 @@ use Rattle.desk.specs.declared.Desk.{Desk}
 use Rattle.desk.proofs.Held.{view-desk}
 use Rattle.desk.proofs.Kept.{good-fresh}
 use Rattle.desk.proofs.Demand.{says, desk-models}
-use Rattle.promises.specs.Table.{conditions, ofFirst, answerBy, bufferBy, ConditionTable, RequestAndStorage}
+use Rattle.promises.specs.Table.{conditions, ofFirst, answerBy, bufferBy, TableAtRecords, ConditionTable, RequestAndStorage}
 use Rattle.promises.proofs.Course.{sends-is}
 
 -- ---- the conditions are the machine's own
@@ -98,6 +98,9 @@ table-step : (q : Queue) (k : Call coeMachine)
 table-step q k =
     let same = refusal-order coeMachine coeNumbered q k ∙ same-tests q k in
     table-move (move coeMachine q k) ∙ ap {B = Told} (λ (x : Option ℕ). (answerBy q k x, bufferBy q k x)) same
+
+pub table-at-records : TableAtRecords
+table-at-records d g k = table-step (viewOf d) k
 
 module _ (p : Pass) (h : within 1 7 (p .counter) ≡ true) (ks : List (Call coeMachine)) (k : Call coeMachine) where
   -- what the record holds after the calls is what the line's desk does

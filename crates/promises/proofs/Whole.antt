@@ -1,7 +1,7 @@
 -- Every transfer that enters follows its own calls, from any record that calls made. Assumes nothing.
 use mathlib.Core.Path.{_≡_, refl, sym, ap, _∙_, subst}
 use mathlib.Core.Bool.{Bool, true, false, false≢true}
-use mathlib.Core.List.{List, [], _∷_, _++_, map}
+use mathlib.Core.List.{List, [], _∷_, _++_, map, tail}
 use Prim.Native.Nat.{ℕ, _≤_}
 use native.Mathlib.Omega.{arith}
 use Rattle.wire.specs.Words.{pick, within}
@@ -29,7 +29,7 @@ use Rattle.desk.specs.Calls.{answerFor, lentAfter}
 use Rattle.desk.specs.Stand.{Told, lentBy, deskStand, isAnswered}
 use Rattle.desk.proofs.Demand.{says, desk-models}
 use Rattle.promises.specs.Standing.{Deed, opened, isOver, Goes}
-use Rattle.promises.specs.Whole.{Follows, EachFollows}
+use Rattle.promises.specs.Whole.{Sums, Follows, EachFollows}
 use Rattle.promises.proofs.Agree.{Stands}
 use Rattle.promises.proofs.Course.{here, goes-alone}
 use Rattle.promises.proofs.Kept as kept
@@ -48,18 +48,21 @@ stands-opened o c f = record { life = begun f; stage = refl; live = refl }
 -- an accepted entry, and the transfer's other calls
 follows-entry : (s : ℕ) (o : Order) (c : ℕ) (rest : List Deed) → unfitOf o ≡ false → within 1 7 c ≡ true → Goes o (opened c) rest
     → Follows (record { call = enter s o; told = (plainOf 0x01, []) } ∷ rest)
-follows-entry s o c rest f h G = record {
-  seat = s;
-  order = o;
-  counter = c;
-  rest = rest;
-  is = refl;
-  fit = f;
-  counts = h;
-  goes = G;
-  within-budget = let z = kept.counts o rest (opened c) (kept.live (openedOf o) (stands-opened o c f)) G in omega arith;
-  kept = λ d B. kept.keeps o d rest (opened c) d (kept.live (openedOf o) (stands-opened o c f) (opens f)) G B;
-}
+follows-entry s o c rest f h G =
+    let S = stands-opened o c f in
+    record {
+      seat = s;
+      order = o;
+      counter = c;
+      rest = rest;
+      is = refl;
+      fit = f;
+      counts = h;
+      goes = G;
+      within-budget = let z = kept.counts o rest (opened c) (kept.live (openedOf o) S) G in omega arith;
+      sums = kept.sums o rest (opened c) (kept.live (openedOf o) S) G;
+      kept = λ d B. kept.keeps o d rest (opened c) d (kept.live (openedOf o) S (opens f)) G B;
+    }
 
 entry-follows : {k : Call coeMachine} {d : Desk coeMachine} {r : Desk coeMachine × Outcome coeMachine} → Move coeMachine k d r → d .line ≡ []
     → within 1 7 (d .pass .counter) ≡ true → isEnter k ≡ true → isAccepted coeMachine (r .1) ≡ true → (ks : List (Call coeMachine))
@@ -85,6 +88,24 @@ pub follows-alone : (p : Pass) → within 1 7 (p .counter) ≡ true → (ks : Li
 unfolding trace OneTransfer
 follows-alone p c [] T = absurd T
 follows-alone p c (k ∷ ks) T = entry-follows (move coeMachine (freshAt coeMachine p) k) refl c (T .0) (T .1) ks (T .2)
+
+-- of a transfer whose entry is known
+pub sums-of : {s : ℕ} {o : Order} {x : Told} {rest : List Deed} → Follows (record { call = enter s o; told = x } ∷ rest)
+    → (c : ℕ) × Sums o (opened c) rest
+sums-of {o = o} {rest = rest} F =
+    let order = ap (orderOr o) (sym (F .is)) in
+    let others = ap (tail {A = Deed}) (sym (F .is)) in
+    (F .counter, subst (λ (r : Order × List Deed). Sums (r .0) (opened (F .counter)) (r .1)) (λ i. (order i, others i)) (F .sums))
+  where
+    entered-by : Order → Call coeMachine → Order
+    entered-by o (enter s e) = e
+    entered-by o (send s b) = o
+    entered-by o (receive s l) = o
+    entered-by o (leave s) = o
+
+    orderOr : Order → List Deed → Order
+    orderOr o [] = o
+    orderOr o (x ∷ xs) = entered-by o (x .call)
 
 -- and so at a shared one
 follows-of : (t : Run) → OneTransfer (isAccepted coeMachine) t → AloneOf coeMachine t → Follows (map (retold says) t)

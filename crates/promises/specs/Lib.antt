@@ -2,3 +2,8 @@ pub mod Standing
 pub mod Whole
 pub mod Table
 pub mod Demand1
+pub mod Demand3
+pub mod Worthless
+pub mod Runs
+pub mod Examples
+pub mod One

@@ -22,8 +22,9 @@ use Rattle.transfer.specs.Entry.{unfitOf}
 use Rattle.transfer.specs.Due.{dueOf, requestDue}
 use Rattle.transfer.specs.Coe.{Lends, requestIn, judged, coeMachine}
 use Rattle.transfer.specs.declared.Transfer.{Transfer}
-use Rattle.desk.specs.Record.{Queue}
-use Rattle.desk.specs.Stand.{Told, lentBy}
+use Rattle.desk.specs.Record.{Queue, Good, viewOf}
+use Rattle.desk.specs.Stand.{Told, lentBy, deskStand}
+use Rattle.desk.specs.declared.Desk.{Desk}
 use Rattle.promises.specs.Standing.{Called}
 
 -- ---- when a call is refused
@@ -88,6 +89,11 @@ bufferBy q (send s b) none =
     ofFirst b (λ t. inFront (packedOf (q .pass .counter) (requestIn (dueOf t))) (length b)) (q .line)
 bufferBy q (receive s l) none = ofFirst (l .1) (λ t. stored (judged t (length (l .1)) (l .0)) (l .0) (t .sum) (l .1)) (q .line)
 bufferBy q (leave s) none = []
+
+-- at every record that calls made, every call is told so
+abbrev pub TableAtRecords : Type 0
+TableAtRecords = (d : Desk) → Good d → (k : Called)
+    → let q = viewOf d in deskStand .answers d k ≡ (answerBy q k (firstOf (conditions q k)), bufferBy q k (firstOf (conditions q k)))
 
 -- ---- of any desk that is offered: the answers that the table gives, after any calls from a fresh desk, whatever its first counter.
 -- What the calls before have made is told by `line`'s desk.

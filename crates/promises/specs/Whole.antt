@@ -1,5 +1,5 @@
--- A whole transfer: an entry, and its own accepted calls. `Follows` says what they give, call by call (`Goes`) and together: how many
--- replies, P, and the payload in the lent buffer. Assumes nothing.
+-- A whole transfer: an entry, and its own accepted calls. `Follows` says what they give, call by call (`Goes`), and then what that comes
+-- to: how many replies, P, and the payload in the lent buffer. Assumes nothing.
 use mathlib.Core.Path.{_≡_}
 use mathlib.Core.Bool.{false, true}
 use mathlib.Core.List.{List, [], _∷_}
@@ -30,6 +30,20 @@ unfoldable pub replyCount : List Deed → ℕ
 replyCount [] = 0
 replyCount (x ∷ xs) = heardBy (x .call) + replyCount xs
 
+-- "00: done, payload length P", where P is the length of the chunks, joined; and 27 where the count reaches the budget. Here w is where
+-- the transfer stands after the call
+unfoldable pub SumsOn : Order → Standing → Called → Told → Type 0
+SumsOn o w (enter s e) t = Unit {0}
+SumsOn o w (send s b) t = Unit {0}
+SumsOn o w (receive s l) t =
+    (t .0 .number ≡ 0x00 → t .0 ≡ doneWith (length (w .payload)))
+    × (t .0 .number ≡ 0x27 → w .replies ≡ o .budget)
+SumsOn o w (leave s) t = Unit {0}
+
+unfoldable pub Sums : Order → Standing → List Deed → Type 0
+Sums o w [] = Unit {0}
+Sums o w (x ∷ xs) = SumsOn o (moved o w (x .call)) (x .call) (x .told) × Sums o (moved o w (x .call)) xs
+
 -- the buffer that a receive lends is the one that held d; and what it holds afterwards
 unfoldable pub Lent : List ℕ → Called → Type 0
 Lent d (enter s e) = Unit {0}
@@ -48,11 +62,11 @@ unfoldable pub OneBuffer : List ℕ → List Deed → Type 0
 OneBuffer d [] = Unit {0}
 OneBuffer d (x ∷ xs) = Lent d (x .call) × OneBuffer (leftBy d (x .call) (x .told)) xs
 
--- on 00: P, and the payload p in the buffer that held d at first
+-- on 00: the payload p in the buffer that held d at first
 unfoldable pub KeptOn : List ℕ → List ℕ → Called → Told → Type 0
 KeptOn d p (enter s e) t = Unit {0}
 KeptOn d p (send s b) t = Unit {0}
-KeptOn d p (receive s l) t = t .0 .number ≡ 0x00 → t ≡ (doneWith (length p), holding p d)
+KeptOn d p (receive s l) t = t .0 .number ≡ 0x00 → t .1 ≡ holding p d
 KeptOn d p (leave s) t = Unit {0}
 
 -- "then on 00 its first min(P, N) bytes are the payload and the others are untouched"
@@ -73,6 +87,7 @@ pub record Follows (t : List Deed) : Type 0 where
   pub goes : Goes order (opened counter) rest
   -- "a reply budget of 1 to 65,535": it takes no more replies than that
   pub within-budget : replyCount rest ≤ order .budget
+  pub sums : Sums order (opened counter) rest
   pub kept : (d : List ℕ) → OneBuffer d rest → Kept order (opened counter) d rest
 
 -- the transfers that enter in a sequence of calls at the record d, each with its own accepted calls and what was told of them

@@ -1,0 +1,35 @@
+-- Uniqueness: "that no second answer satisfies it is shown". A statement of a public function has one of seven shapes, and each leaves
+-- one answer and, where a buffer is lent, one content of it. `tools/statements --shapes` names the shape of every public function and
+-- fails at one that has none of them. Assumes nothing.
+use mathlib.Core.Path.{_≡_}
+use mathlib.Core.Bool.{Bool}
+use mathlib.Core.List.{List}
+use Prim.Native.Nat.{ℕ}
+use Rattle.services.specs.Written.{Writes}
+use Rattle.services.specs.declared.Request.{Request}
+use Rattle.services.specs.declared.Wrote.{Wrote}
+use Rattle.transfer.specs.declared.Order.{Order}
+use Rattle.desk.specs.Calls as desk
+use Rattle.desk.specs.declared.Called as given
+use Rattle.desk.specs.declared.Desk.{Desk}
+use Rattle.client.specs.Run.{Run}
+use Rattle.client.specs.declared.Seen.{Seen}
+use Rattle.promises.specs.Standing.{Called}
+
+-- at most one answer satisfies the statement P
+abbrev pub One : {A : Type 0} → (A → Type 0) → Type 0
+One {A} P = (a b : A) → P a → P b → a ≡ b
+
+pub record Unique : Type 1 where
+  -- `r ≡ x`, or the same of a lent buffer
+  pub equality : {A : Type 0} (x : A) → One (λ r. r ≡ x)
+  -- `(r ≡ x) × (the lent buffer ≡ y)`
+  pub equalities : {A B : Type 0} (x : A) (y : B) → One (λ (r : A × B). (r .0 ≡ x) × (r .1 ≡ y))
+  pub writers : (fine : Bool) (counter : ℕ) (request : Request) (before : List ℕ)
+      → One (λ (r : Wrote × List ℕ). Writes fine counter request before (r .0) (r .1))
+  pub fresh : (counter : ℕ) → One (desk.Fresh counter)
+  pub enter-leave : (d : Desk) (k : Called) → One (desk.Gives d k)
+  pub send-receive : (d : Desk) (k : Called) (before : List ℕ)
+      → One (λ (r : given.Called × List ℕ). desk.GivesLent d k (r .0) before (r .1))
+  pub run : (seat : ℕ) (order : Order) (frame reply buffer : List ℕ)
+      → One (λ (r : Seen × List ℕ × List ℕ). Run seat order frame reply buffer (r .0) (r .1) (r .2))

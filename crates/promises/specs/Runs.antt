@@ -1,0 +1,174 @@
+-- Runs of the shipped desk, with what is told of each call: the answer, and the lent buffer afterwards. Assumes nothing.
+use mathlib.Core.List.{List, [], _∷_, _++_, map}
+use Prim.Native.Nat.{ℕ}
+use lib.ListN.{replicate}
+use Rattle.wire.specs.Bytes.{hex}
+use Rattle.judge.specs.Answers.{plainOf, doneWith}
+use Rattle.line.specs.Desk.{passAt, enter, send, receive, leave}
+use Rattle.line.specs.Stand.{trace}
+use Rattle.transfer.specs.declared.Order.{Order}
+use Rattle.desk.specs.Stand.{Told, deskStand}
+use Rattle.promises.specs.Standing.{Called, Deed}
+
+abbrev pub toldFrom : ℕ → List Called → List Told
+toldFrom c ks = map (λ (x : Deed). x .told) (trace deskStand (deskStand .fresh (passAt c)) ks)
+
+-- ---- orders
+
+-- upload of 0x1018:01, with a budget
+abbrev pub upload : ℕ → Order
+upload budget = record { kind = 1; sub = 1; index = 0x1018; value = 0; len = 0; budget = budget }
+
+-- download of the byte 08 to 0x6060:00
+abbrev pub download : Order
+download = record { kind = 3; sub = 0; index = 0x6060; value = 0x08; len = 1; budget = 1 }
+
+-- object list of kind 1
+abbrev pub list : Order
+list = record { kind = 4; sub = 0; index = 1; value = 0; len = 0; budget = 9 }
+
+-- ---- buffers and replies
+
+abbrev pub blank : ℕ → List ℕ
+blank n = replicate n 0xee
+
+-- 0x1018:01 is 0x12345678, in one reply
+abbrev pub expedited : List ℕ
+expedited = hex 16 0x0a000000001300304318100178563412
+
+-- a complete size of 8, and no data: segments follow
+abbrev pub segmentsFollow : List ℕ
+segmentsFollow = hex 16 0x0a000000001300304118100108000000
+
+-- segments of 3 bytes, more to come; and of 4 bytes, the last
+abbrev pub three : List ℕ
+three = hex 15 0x060000000013003000000000a1a2a3
+
+abbrev pub lastFour : List ℕ
+lastFour = hex 16 0x070000000013003011000000b1b2b3b4
+
+-- fragments of a list: the first, of 4 bytes behind the list kind; the last, of 2
+abbrev pub firstFragment : List ℕ
+firstFragment = hex 18 0x0c00000000130080820001000100aabbccdd
+
+abbrev pub lastFragment : List ℕ
+lastFragment = hex 14 0x0a00000000130080020000001122
+
+abbrev pub downloaded : List ℕ
+downloaded = hex 16 0x0a000000001300306060600000000000
+
+-- ---- what is told
+
+abbrev pub entered : Told
+entered = (plainOf 0x01, [])
+
+abbrev pub left : Told
+left = (plainOf 0x03, [])
+
+abbrev pub sent : List ℕ → Told
+sent frame = (plainOf 0x02, frame)
+
+abbrev pub refused : ℕ → List ℕ → Told
+refused n buffer = (plainOf n, buffer)
+
+abbrev pub Run : Type 0
+Run = List Told × List Told
+
+-- one frame of a transfer that is then left
+abbrev pub oneFrame : List Called
+oneFrame = enter 3 (upload 1) ∷ send 3 (blank 16) ∷ leave 3 ∷ []
+
+abbrev pub oneFrameWith : ℕ → List Told
+oneFrameWith frame = entered ∷ sent (hex 16 frame) ∷ left ∷ []
+
+abbrev pub runs : List Run
+runs =
+    -- (P) "Eighth frame: counter 1."
+    (
+      toldFrom 1 (oneFrame ++ oneFrame ++ oneFrame ++ oneFrame ++ oneFrame ++ oneFrame ++ oneFrame ++ oneFrame),
+      oneFrameWith 0x0a000000001300204018100100000000
+          ++ oneFrameWith 0x0a000000002300204018100100000000
+          ++ oneFrameWith 0x0a000000003300204018100100000000
+          ++ oneFrameWith 0x0a000000004300204018100100000000
+          ++ oneFrameWith 0x0a000000005300204018100100000000
+          ++ oneFrameWith 0x0a000000006300204018100100000000
+          ++ oneFrameWith 0x0a000000007300204018100100000000
+          ++ oneFrameWith 0x0a000000001300204018100100000000,
+    )
+    -- "Budget 2, first segment not last: 27.", and its chunk is not stored
+    ∷ (
+      toldFrom 1
+          (enter 0 (upload 2) ∷ send 0 (blank 16) ∷ receive 0 (segmentsFollow, blank 8) ∷ send 0 (blank 16) ∷ receive 0 (three, blank 8) ∷ []),
+      entered
+          ∷ sent (hex 16 0x0a000000001300204018100100000000)
+          ∷ (plainOf 0x01, blank 8)
+          ∷ sent (hex 16 0x0a000000002300206000000000000000)
+          ∷ (plainOf 0x27, blank 8)
+          ∷ [],
+    )
+    -- two segments: toggle 0, then 1; each chunk behind the one before; P is their sum
+    ∷ (
+      toldFrom 6
+          (enter 0 (upload 3) ∷ send 0 (blank 16) ∷ receive 0 (segmentsFollow, blank 8) ∷ send 0 (blank 16) ∷ receive 0 (three, blank 8)
+          ∷ send 0 (blank 16) ∷ receive 0 (lastFour, hex 8 0xa1a2a3eeeeeeeeee) ∷ []),
+      entered
+          ∷ sent (hex 16 0x0a000000006300204018100100000000)
+          ∷ (plainOf 0x01, blank 8)
+          ∷ sent (hex 16 0x0a000000007300206000000000000000)
+          ∷ (plainOf 0x01, hex 8 0xa1a2a3eeeeeeeeee)
+          ∷ sent (hex 16 0x0a000000001300207000000000000000)
+          ∷ (doneWith 7, hex 8 0xa1a2a3b1b2b3b4ee)
+          ∷ [],
+    )
+    -- a list of two fragments: one request, two replies
+    ∷ (
+      toldFrom 1
+          (enter 0 list ∷ send 0 (blank 17) ∷ receive 0 (firstFragment, blank 8) ∷ receive 0 (lastFragment, hex 8 0xaabbccddeeeeeeee) ∷ []),
+      entered
+          ∷ sent (hex 17 0x0800000000130080010000000100000000)
+          ∷ (plainOf 0x02, hex 8 0xaabbccddeeeeeeee)
+          ∷ (doneWith 6, hex 8 0xaabbccdd1122eeee)
+          ∷ [],
+    )
+    -- a download
+    ∷ (
+      toldFrom 2 (enter 0 download ∷ send 0 (blank 16) ∷ receive 0 (downloaded, blank 2) ∷ []),
+      entered ∷ sent (hex 16 0x0a000000002300202f60600008000000) ∷ (doneWith 0, blank 2) ∷ [],
+    )
+    -- two tasks ask one drive at once: the second waits until the first is done, and gets its own record
+    ∷ (
+      toldFrom 1
+          (enter 0 (upload 9) ∷ enter 1 (upload 9) ∷ send 0 (blank 16) ∷ send 1 (blank 16) ∷ receive 1 (expedited, blank 4)
+          ∷ receive 0 (segmentsFollow, blank 8) ∷ send 1 (blank 16) ∷ send 0 (blank 16) ∷ receive 0 (lastFour, blank 8) ∷ send 1 (blank 16)
+          ∷ receive 1 (expedited, blank 4) ∷ []),
+      entered
+          ∷ entered
+          ∷ sent (hex 16 0x0a000000001300204018100100000000)
+          ∷ refused 0x13 (blank 16)
+          ∷ refused 0x13 (blank 4)
+          ∷ (plainOf 0x01, blank 8)
+          ∷ refused 0x13 (blank 16)
+          ∷ sent (hex 16 0x0a000000002300206000000000000000)
+          ∷ (doneWith 4, hex 8 0xb1b2b3b4eeeeeeee)
+          ∷ sent (hex 16 0x0a000000003300204018100100000000)
+          ∷ (doneWith 4, hex 4 0x78563412)
+          ∷ [],
+    )
+    -- 10 to 16, each where the next would be given too, and a frame after them with the counter that was due
+    ∷ (
+      toldFrom 1
+          (send 8 [] ∷ enter 0 (upload 1) ∷ enter 0 (upload 0) ∷ enter 1 (upload 0) ∷ send 1 [] ∷ enter 1 (upload 1) ∷ send 1 []
+          ∷ receive 0 (hex 1487 0, []) ∷ send 0 (blank 15) ∷ send 0 (blank 16) ∷ []),
+      refused 0x10 []
+          ∷ entered
+          ∷ refused 0x11 []
+          ∷ refused 0x15 []
+          ∷ refused 0x12 []
+          ∷ entered
+          ∷ refused 0x13 []
+          ∷ refused 0x14 []
+          ∷ refused 0x16 (blank 15)
+          ∷ sent (hex 16 0x0a000000001300204018100100000000)
+          ∷ [],
+    )
+    ∷ []
