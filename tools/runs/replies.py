@@ -1,0 +1,46 @@
+"""Replies as a drive sends them, by document 01's layouts."""
+from stored import le
+
+
+def header(length, service, mailbox_type=3, counter=1):
+    return le(length, 2) + bytes([0, 0, 0, mailbox_type | counter << 4, 0, service << 4])
+
+
+def sdo(first, index, sub, rest, length=10, **more):
+    return header(length, 3, **more) + bytes([first]) + le(index, 2) + bytes([sub]) + rest
+
+
+def expedited(index, sub, payload, **more):
+    return sdo(2 << 5 | (4 - len(payload)) << 2 | 3, index, sub, payload.ljust(4, b"\0"), **more)
+
+
+def normal(index, sub, payload, complete=None):
+    return sdo(2 << 5 | 1, index, sub, le(len(payload) if complete is None else complete, 4) + payload, 10 + len(payload))
+
+
+def segments_follow(index, sub, complete):
+    return sdo(2 << 5 | 1, index, sub, le(complete, 4))
+
+
+def segment(chunk, last, toggle=0, padded=True):
+    """A chunk below 7 bytes as seven with an unused count; `padded=False`: by its length alone."""
+    unused = 7 - len(chunk) if padded and len(chunk) < 7 else 0
+    return header(len(chunk) + unused + 3, 3) + bytes([toggle << 4 | unused << 1 | last, 0, 0, 0]) + chunk + bytes(unused)
+
+
+def downloaded(index, sub):
+    return sdo(3 << 5, index, sub, bytes(4))
+
+
+def aborted(index, sub, code):
+    return sdo(4 << 5, index, sub, le(code, 4))
+
+
+def emergency(code, register):
+    return header(10, 1) + bytes(4) + le(code, 2) + bytes([register]) + bytes(5)
+
+
+def fragment(chunk, first, more, operation=2, left=0):
+    """A list's fragment: the chunk from byte 14 in the first, from 12 in later ones, and 8 more than it in the length field."""
+    return (header(len(chunk) + 8, 8) + bytes([operation | more << 7, 0]) + le(left, 2)
+            + (bytes([1, 0]) if first else b"") + chunk)
