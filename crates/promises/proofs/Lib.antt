@@ -1,3 +1,9 @@
+pub mod Fields
+pub mod Lines
+pub mod Decoded
+pub mod Rules
+pub mod Budget
+pub mod Awaited
 pub mod Agree
 pub mod Course
 pub mod Kept

@@ -1,7 +1,10 @@
+pub mod Fields
+pub mod Told
+pub mod Rules
 pub mod Standing
-pub mod Whole
-pub mod Table
 pub mod Demand1
+pub mod Table
+pub mod Whole
 pub mod Demand3
 pub mod Worthless
 pub mod Runs
