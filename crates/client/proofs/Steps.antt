@@ -1,12 +1,11 @@
 -- One call of the run, by what the call promised. Assumes nothing.
-use mathlib.Core.Path.{_≡_, refl, sym, ap, ap₂, _∙_}
+use mathlib.Core.Path.{_≡_, refl, sym, ap, _∙_}
 use mathlib.Core.Bool.{Bool, true, false, true≢false}
 use mathlib.Core.List.{List, [], _∷_}
 use Prim.Native.Nat.{ℕ}
 use Rattle.line.specs.Desk.{Call, Outcome, enter, send, receive, leave, step}
 use Rattle.line.specs.Stand.{Event, trace}
 use Rattle.line.proofs.Moves.{Move, stays, joins, asks, hears, goes, move}
-use Rattle.judge.specs.declared.Answer.{Answer}
 use Rattle.transfer.specs.declared.Order.{Order}
 use Rattle.transfer.specs.Coe.{coeMachine}
 use Rattle.desk.specs.Record.{Queue, viewOf}

@@ -3,7 +3,6 @@
 use desk::Desk;
 use judge::Answer;
 use transfer::Order;
-ghost use mathlib.Core.Path.{_≡_};
 ghost use Rattle.client.specs.Run.{Run};
 
 // The answers in the order of the calls.

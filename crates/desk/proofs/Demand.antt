@@ -2,14 +2,14 @@
 use mathlib.Core.Path.{_≡_, refl, sym, ap, _∙_}
 use mathlib.Core.Bool.{not}
 use Prim.Native.Nat.{ℕ}
-use Rattle.line.specs.Desk.{passAt, Pass, first, Call, Outcome, refused, entered, sent, received, left, freshAt, step}
+use Rattle.line.specs.Desk.{passAt, Call, Outcome, refused, entered, sent, received, left, freshAt, step}
 use Rattle.line.specs.Stand.{isAccepted}
 use Rattle.line.specs.Numbers.{is1x, number}
 use Rattle.line.proofs.Refine.{Models, demand3-of}
 use Rattle.line.proofs.Refusals.{accepted-numbers}
 use Rattle.transfer.specs.Coe.{coeMachine}
 use Rattle.transfer.proofs.Numbers.{coeNumbered}
-use Rattle.desk.specs.Record.{Queue, Good, viewOf, emptyAt}
+use Rattle.desk.specs.Record.{Queue, Good, viewOf}
 use Rattle.desk.specs.Calls.{answerFor, lentAfter}
 use Rattle.desk.specs.Stand.{Told, lentBy, deskStand, isAnswered, Demand3Desk}
 use Rattle.desk.specs.declared.Desk.{Desk}

@@ -1,10 +1,10 @@
 -- Every record that calls made from a fresh desk is good, and so a call that gives the step's record gives a good one. Assumes nothing.
-use mathlib.Core.Path.{_≡_, refl, sym, ap, subst}
+use mathlib.Core.Path.{_≡_, sym, ap, subst}
 use mathlib.Core.Bool.{true}
 use mathlib.Core.List.{List, [], _∷_}
 use Prim.Native.Nat.{ℕ}
 use Rattle.wire.specs.Words.{within}
-use Rattle.line.specs.Desk.{Pass, Call, passAt, freshAt, step}
+use Rattle.line.specs.Desk.{Call, passAt, freshAt, step}
 use Rattle.line.specs.Stand.{after}
 use Rattle.line.specs.Sound.{Sound}
 use Rattle.line.proofs.Room.{sound}

@@ -1,7 +1,7 @@
 -- Each call that is not refused: what the private functions make of a good record is the record of the step. Assumes nothing.
 use mathlib.Core.Path.{_≡_, refl, sym, ap, _∙_}
 use mathlib.Core.Bool.{Bool, true, false, not}
-use mathlib.Core.List.{List, _∷_, _++_, tail}
+use mathlib.Core.List.{List, _++_, tail}
 use mathlib.Core.Option.{Option, none, some}
 use Prim.Native.Nat.{ℕ, _<_}
 use native.Mathlib.Omega.{arith}
@@ -10,7 +10,7 @@ use lib.ListN.{length}
 use Rattle.wire.specs.Words.{pick}
 use Rattle.line.specs.Machine.{Ruling, refuse, accept, andThen}
 use Rattle.line.specs.Line.{Line, seated, head, place}
-use Rattle.line.specs.Desk.{following, counted, enter, send, receive, leave, Outcome, refused, sent, received, sentBy, receivedBy, judge, settled, step}
+use Rattle.line.specs.Desk.{following, enter, send, receive, leave, Outcome, refused, sent, received, sentBy, receivedBy, judge, settled, step}
 use Rattle.line.proofs.Moves.{head-accept}
 use Rattle.line.proofs.Steps.{enter-01, leave-03}
 use Rattle.judge.specs.declared.Answer.{Answer}

@@ -3,7 +3,7 @@
 use mathlib.Core.Bool.{Bool, not}
 use mathlib.Core.List.{List, []}
 use Prim.Native.Nat.{ℕ}
-use Rattle.line.specs.Desk.{passAt, Pass, Call, enter, send, receive, leave, step}
+use Rattle.line.specs.Desk.{passAt, Call, enter, send, receive, leave, step}
 use Rattle.line.specs.Stand.{Stand}
 use Rattle.line.specs.Alone.{Demand3Of}
 use Rattle.line.specs.Numbers.{is1x}

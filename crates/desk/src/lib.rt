@@ -17,10 +17,8 @@ use transfer::Order;
 use transfer::Sending;
 use transfer::Start;
 use transfer::Step;
-ghost use mathlib.Core.Path.{_≡_};
-ghost use Rattle.line.specs.Desk.{passAt, first, freshAt, Call};
-ghost use Rattle.transfer.specs.Coe.{coeMachine};
-ghost use Rattle.desk.specs.Record.{Good, deskOf, counterFrom};
+ghost use Rattle.line.specs.Desk.{Call};
+ghost use Rattle.desk.specs.Record.{Good, counterFrom};
 ghost use Rattle.desk.specs.Calls.{Fresh, Gives, GivesLent};
 
 pub mod record;

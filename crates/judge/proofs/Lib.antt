@@ -1,5 +1,4 @@
 pub mod Laid
 pub mod Cases
-pub mod Alike
 pub mod Payload
 pub mod Numbers

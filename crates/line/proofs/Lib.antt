@@ -5,7 +5,6 @@ pub mod Steps
 pub mod Moves
 pub mod Room
 pub mod Kept
-pub mod Every
 pub mod Parts
 pub mod Quiet
 pub mod Demand

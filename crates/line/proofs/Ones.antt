@@ -1,10 +1,9 @@
 -- What `transfers` reads off accepted calls are transfers: an entry, and accepted calls of its own. Assumes nothing.
-use mathlib.Core.Path.{_≡_, refl}
-use mathlib.Core.Bool.{Bool, true, false}
-use mathlib.Core.List.{List, [], _∷_, _++_}
+use mathlib.Core.Path.{_≡_}
+use mathlib.Core.Bool.{Bool, true}
+use mathlib.Core.List.{List, [], _∷_}
 use Prim.Native.Nat.{ℕ}
 use lib.Dec.{eqb}
-use Rattle.wire.specs.Words.{pick}
 use Rattle.wire.proofs.Cases.{by}
 use Rattle.line.specs.Lists.{Each, keep}
 use Rattle.line.specs.Machine.{Machine}

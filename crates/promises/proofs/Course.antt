@@ -1,14 +1,14 @@
 -- A transfer alone at a desk: each of its accepted calls gives what its own calls before it say. Assumes nothing.
 use mathlib.Core.Path.{_≡_, refl, sym, ap, ap₂, _∙_, subst}
 use mathlib.Core.Bool.{Bool, true, false, false≢true, true≢false}
-use mathlib.Core.List.{List, [], _∷_, _++_, map, tail, append-nil}
+use mathlib.Core.List.{List, [], _∷_, map, tail, append-nil}
 use mathlib.Core.Option.{Option, none, some}
 use Prim.Native.Nat.{ℕ, suc}
 use native.Mathlib.Omega.{arith}
 use borrow.Author.Tests.{eqb-true, eq-eqb}
 use lib.Dec.{eqb}
 use lib.ListN.{length}
-use Rattle.wire.specs.Words.{pick, within}
+use Rattle.wire.specs.Words.{pick}
 use Rattle.wire.specs.Front.{inFront}
 use Rattle.services.specs.Requests.{packedOf}
 use Rattle.services.specs.Written.{fits}
@@ -19,8 +19,8 @@ use Rattle.judge.specs.declared.Verdict.{Verdict}
 use Rattle.line.specs.Lists.{Each}
 use Rattle.line.specs.Machine.{Ruling, refuse, accept}
 use Rattle.line.specs.Line.{Line, vacate, find, place}
-use Rattle.line.specs.Desk.{passAt, Pass, following, Call, Outcome, Desk, enter, send, receive, leave, refused, entered, sent, received, left, freshAt, step}
-use Rattle.line.specs.Stand.{Event, trace, lineStand, isAccepted}
+use Rattle.line.specs.Desk.{passAt, Pass, following, Call, Outcome, Desk, send, receive, leave, sent, received, left, step}
+use Rattle.line.specs.Stand.{trace, lineStand, isAccepted}
 use Rattle.line.specs.Transfers.{seatOf, isEnter, Later}
 use Rattle.line.proofs.Rulings.{refuse≢accept, accept-eq}
 use Rattle.line.proofs.Moves.{at, Move, stays, joins, asks, hears, goes, move}
@@ -28,15 +28,14 @@ use Rattle.line.proofs.Told.{retold}
 use Rattle.transfer.specs.Due.{dueOf, requestDue, awaitingOf}
 use Rattle.transfer.specs.Judgement.{nextOf}
 use Rattle.transfer.specs.Coe.{Lends, Gives, requestIn, judged, receipt, sendsWith, receivesWith, coeMachine}
-use Rattle.transfer.specs.Life.{replied}
 use Rattle.transfer.specs.declared.Order.{Order}
 use Rattle.transfer.specs.declared.Transfer.{Transfer}
-use Rattle.transfer.proofs.Numbers.{Accepted, accepted}
+use Rattle.transfer.proofs.Numbers.{accepted}
 use Rattle.transfer.proofs.Lives.{life-true}
 use Rattle.desk.specs.Calls.{answerFor, lentAfter}
 use Rattle.desk.specs.Stand.{lentBy}
 use Rattle.desk.proofs.Demand.{says}
-use Rattle.promises.specs.Standing.{Standing, Due, nothing, isOver, isRequest, isReply, verdictOf, dueAfter, moved, Goes}
+use Rattle.promises.specs.Standing.{Standing, Due, nothing, isRequest, verdictOf, moved, Goes}
 use Rattle.promises.specs.Standing as standing
 use Rattle.promises.proofs.Agree.{Stands, asked-stands, heard-stands, request-is, verdict-is}
 use Rattle.promises.proofs.Agree as agree

@@ -1,12 +1,12 @@
 -- Demand 1, by what each call does. Assumes nothing.
 use mathlib.Core.Path.{_≡_, refl, sym, ap, _∙_, subst}
 use mathlib.Core.Bool.{true, false, false≢true, true≢false}
-use mathlib.Core.List.{List, [], _∷_, _++_}
-use mathlib.Core.Option.{Option, none, some}
+use mathlib.Core.List.{[], _∷_, _++_}
+use mathlib.Core.Option.{Option, none}
 use Prim.Native.Nat.{ℕ, suc, _/_, _≤_}
 use native.Mathlib.Omega.{arith}
 use borrow.Author.Tests.{eqb-true, eqb-false, le-leb}
-use lib.Dec.{eqb, leb}
+use lib.Dec.{eqb}
 use lib.ListN.{length}
 use Rattle.wire.specs.Words.{within}
 use Rattle.wire.proofs.Cases.{by}
@@ -14,11 +14,11 @@ use Rattle.judge.specs.Answers.{answerOf, oneOf}
 use Rattle.judge.specs.declared.Verdict.{Verdict}
 use Rattle.judge.specs.declared.Verdict.the-variants as verdict
 use Rattle.line.specs.Machine.{accept}
-use Rattle.line.specs.Line.{Line, seated, find, vacate, place}
-use Rattle.line.specs.Desk.{Pass, Call, Outcome, Desk, enter, send, receive, leave, refused, entered, sent, received, left, step}
+use Rattle.line.specs.Line.{Line, seated, place}
+use Rattle.line.specs.Desk.{Pass, Call, Outcome, receive, refused, received, step}
 use Rattle.line.specs.Transfers.{seatOf}
 use Rattle.line.specs.Numbers.{is1x}
-use Rattle.line.specs.Sound.{Sound, Distinct}
+use Rattle.line.specs.Sound.{Distinct}
 use Rattle.line.proofs.Rulings.{within-true}
 use Rattle.line.proofs.Seats.{vacated}
 use Rattle.line.proofs.Moves.{at, Move, stays, joins, asks, hears, goes, move}
@@ -28,14 +28,13 @@ use Rattle.transfer.specs.Coe.{Lends, Gives, judged, receivesWith, coeMachine}
 use Rattle.transfer.specs.declared.Transfer.{Transfer}
 use Rattle.transfer.proofs.Numbers.{among, judged-number, not-1x, accepted, coeNumbered}
 use Rattle.transfer.proofs.Refusals.{ends-unstored}
-use Rattle.desk.specs.Record.{Queue, Good, viewOf, deskOf}
+use Rattle.desk.specs.Record.{Queue, viewOf, deskOf}
 use Rattle.desk.specs.Calls.{answerFor, lentAfter}
 use Rattle.desk.specs.Stand.{lentBy}
-use Rattle.desk.specs.declared.Desk as record′
 use Rattle.desk.proofs.Held.{view-desk}
 use Rattle.desk.proofs.Kept.{good-step}
 use Rattle.desk.proofs.Demand.{says}
-use Rattle.promises.specs.Demand1.{numbers, is2x, Judged, Demand1}
+use Rattle.promises.specs.Demand1.{numbers, is2x, Demand1}
 
 -- from a on, and not a
 above : (a n : ℕ) → a ≤ n → eqb n a ≡ false → suc a ≤ n
@@ -104,6 +103,17 @@ module _ (s : ℕ) (m : Lends) (t : Transfer) (r : Gives × Option Transfer) (l 
         leaves = λ e. absurd (true≢false (sym one ∙ ap (oneOf judgedNumbers) e));
       }
 
+-- a number of the table that ends nothing and refuses nothing
+goes-on : {k : Call coeMachine} {q : Queue} {r : Queue × Outcome coeMachine} → let n = says k (r .1) .0 .number in
+    oneOf numbers n ≡ true → is1x n ≡ false → is2x n ≡ false → (n ≡ 0x00 → ⊥) → (n ≡ 0x03 → ⊥) → Says k q r
+goes-on h a b c d = record {
+  listed = h;
+  refusal = λ e. absurd (true≢false (sym e ∙ a));
+  failure = λ e. absurd (true≢false (sym e ∙ b));
+  done = λ e. absurd (c e);
+  leaves = λ e. absurd (d e);
+}
+
 says-move : {k : Call coeMachine} {q : Queue} {r : Queue × Outcome coeMachine} → Move coeMachine k q r → Distinct (q .line)
     → ((n : ℕ) → r .1 ≡ refused n → within 0x10 0x16 n ≡ true) → Says k q r
 unfolding answerFor lentAfter lentBy seatOf
@@ -116,20 +126,8 @@ says-move (stays n) D R =
       done = λ e. absurd (omega (arith, w .0));
       leaves = λ e. absurd (omega (arith, w .0));
     }
-says-move (joins s o t a h b) D R = record {
-  listed = refl;
-  refusal = λ e. absurd (false≢true e);
-  failure = λ e. absurd (false≢true e);
-  done = λ e. absurd (omega arith);
-  leaves = λ e. absurd (omega arith);
-}
-says-move (asks s b t r a e f) D R = record {
-  listed = refl;
-  refusal = λ e. absurd (false≢true e);
-  failure = λ e. absurd (false≢true e);
-  done = λ e. absurd (omega arith);
-  leaves = λ e. absurd (omega arith);
-}
+says-move (joins s o t a h b) D R = goes-on refl refl refl (λ e. omega arith) (λ e. omega arith)
+says-move (asks s b t r a e f) D R = goes-on refl refl refl (λ e. omega arith) (λ e. omega arith)
 says-move (hears {l = l} {p = p} s m t r a e f) D R = says-heard s m t r l p (D .0) f
 says-move (goes {l = l} s t a h) D R = record {
   listed = refl;

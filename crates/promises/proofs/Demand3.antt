@@ -1,16 +1,14 @@
 -- Demand 3 of the shipped desk, and what follows from it of any. Assumes nothing.
-use mathlib.Core.Path.{_≡_, refl, sym, ap, _∙_, subst}
-use mathlib.Core.Bool.{Bool, true}
+use mathlib.Core.Path.{sym, ap, _∙_, subst}
+use mathlib.Core.Bool.{Bool}
 use mathlib.Core.List.{List, [], _∷_, map}
 use Prim.Native.Nat.{ℕ}
-use Rattle.wire.specs.Words.{within}
 use Rattle.wire.proofs.Cases.{by}
 use Rattle.line.specs.Lists.{Each, keep}
-use Rattle.line.specs.Desk.{Pass, first, Call, Outcome, Desk, freshAt, step}
-use Rattle.line.specs.Stand.{Stand, Event, calls, trace, lineStand, isAccepted}
-use Rattle.line.specs.Transfers.{sentFrame, transfers, listed, seatOf, isEnter, Later, OneTransfer}
-use Rattle.line.specs.Alone.{Demand3Of, listedOf, Begins}
-use Rattle.line.proofs.Lists.{each-map}
+use Rattle.line.specs.Desk.{first, Call, Desk, freshAt, step}
+use Rattle.line.specs.Stand.{Stand, trace, lineStand, isAccepted}
+use Rattle.line.specs.Transfers.{sentFrame, transfers, listed, seatOf, Later, OneTransfer}
+use Rattle.line.specs.Alone.{listedOf}
 use Rattle.line.proofs.Served.{calls-trace, no-pretender}
 use Rattle.line.proofs.Ones.{each-keep, each-one}
 use Rattle.line.proofs.Told.{retold}

@@ -6,6 +6,7 @@ pub mod Budget
 pub mod Awaited
 pub mod Agree
 pub mod Course
+pub mod Sums
 pub mod Kept
 pub mod Whole
 pub mod Demand1

@@ -3,8 +3,6 @@ use mathlib.Core.Path.{_≡_, sym, ap, _∙_}
 use mathlib.Core.List.{List, [], _∷_}
 use Prim.Native.Nat.{ℕ, zero, suc}
 use Rattle.judge.specs.Answers.{plainOf}
-use Rattle.line.specs.Stand.{Event}
-use Rattle.transfer.specs.Coe.{coeMachine}
 use Rattle.desk.specs.Stand.{Told}
 use Rattle.promises.specs.One.{Unique}
 use Rattle.promises.specs.Standing.{Deed}

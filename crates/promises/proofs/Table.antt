@@ -1,15 +1,15 @@
 -- The desk gives what the table says. Assumes nothing.
-use mathlib.Core.Path.{_≡_, refl, sym, ap, _∙_, subst}
+use mathlib.Core.Path.{_≡_, refl, sym, ap, _∙_}
 use mathlib.Core.Bool.{Bool, true, false, not}
-use mathlib.Core.List.{List, [], _∷_, _++_}
-use mathlib.Core.Option.{Option, none, some}
+use mathlib.Core.List.{List, [], _∷_}
+use mathlib.Core.Option.{Option, some}
 use Prim.Native.Nat.{ℕ}
 use lib.Dec.{ltb}
 use lib.ListN.{length}
 use Rattle.wire.specs.Words.{pick, within}
 use Rattle.services.specs.Written.{fits}
 use Rattle.judge.specs.Answers.{plainOf}
-use Rattle.line.specs.Machine.{Ruling, refuse, accept}
+use Rattle.line.specs.Machine.{refuse, accept}
 use Rattle.line.specs.Line.{Line}
 use Rattle.line.specs.Desk.{Pass, Call, Outcome, enter, send, receive, leave, freshAt, step}
 use Rattle.line.specs.Stand.{after, lineStand}

@@ -1,15 +1,15 @@
 -- Every transfer that enters follows its own calls, from any record that calls made. Assumes nothing.
-use mathlib.Core.Path.{_≡_, refl, sym, ap, _∙_, subst}
+use mathlib.Core.Path.{_≡_, refl, sym, ap, subst}
 use mathlib.Core.Bool.{Bool, true, false, false≢true}
 use mathlib.Core.List.{List, [], _∷_, _++_, map, tail}
-use Prim.Native.Nat.{ℕ, _≤_}
+use Prim.Native.Nat.{ℕ}
 use native.Mathlib.Omega.{arith}
-use Rattle.wire.specs.Words.{pick, within}
+use Rattle.wire.specs.Words.{within}
 use Rattle.judge.specs.Answers.{plainOf}
 use Rattle.line.specs.Lists.{Each, keep}
 use Rattle.line.specs.Machine.{accept}
 use Rattle.line.specs.Line.{Line}
-use Rattle.line.specs.Desk.{Pass, passAt, Call, Outcome, Desk, enter, send, receive, leave, entered, freshAt, step}
+use Rattle.line.specs.Desk.{Pass, Call, Outcome, Desk, enter, send, receive, leave, freshAt}
 use Rattle.line.specs.Stand.{Event, calls, trace, lineStand, isAccepted}
 use Rattle.line.specs.Transfers.{seatOf, isEnter, transfers, Later, OneTransfer}
 use Rattle.line.specs.Alone.{AloneOf}
@@ -24,7 +24,7 @@ use Rattle.transfer.specs.Coe.{beginsWith, coeMachine}
 use Rattle.transfer.specs.Life.{begun, opens}
 use Rattle.transfer.specs.declared.Order.{Order}
 use Rattle.transfer.specs.declared.Transfer.{Transfer}
-use Rattle.desk.specs.Record.{Good, viewOf}
+use Rattle.desk.specs.Record.{viewOf}
 use Rattle.desk.specs.Calls.{answerFor, lentAfter}
 use Rattle.desk.specs.Stand.{Told, lentBy, deskStand, isAnswered}
 use Rattle.desk.proofs.Demand.{says, desk-models}
@@ -32,6 +32,7 @@ use Rattle.promises.specs.Standing.{Deed, opened, isOver, Goes}
 use Rattle.promises.specs.Whole.{Sums, Follows, EachFollows}
 use Rattle.promises.proofs.Agree.{Stands}
 use Rattle.promises.proofs.Course.{here, goes-alone}
+use Rattle.promises.proofs.Sums as sums
 use Rattle.promises.proofs.Kept as kept
 
 abbrev Run : Type 0
@@ -59,8 +60,8 @@ follows-entry s o c rest f h G =
       fit = f;
       counts = h;
       goes = G;
-      within-budget = let z = kept.counts o rest (opened c) (kept.live (openedOf o) S) G in omega arith;
-      sums = kept.sums o rest (opened c) (kept.live (openedOf o) S) G;
+      within-budget = let z = sums.counts o rest (opened c) (sums.live (openedOf o) S) G in omega arith;
+      sums = sums.sums o rest (opened c) (sums.live (openedOf o) S) G;
       kept = λ d B. kept.keeps o d rest (opened c) d (kept.live (openedOf o) S (opens f)) G B;
     }
 

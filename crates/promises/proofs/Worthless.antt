@@ -14,12 +14,14 @@ use Rattle.line.specs.Stand.{Stand, trace, after}
 use Rattle.line.specs.Numbers.{is1x}
 use Rattle.transfer.specs.Coe.{coeMachine}
 use Rattle.desk.specs.Stand.{Told, lentBy, deskStand}
+use Rattle.desk.proofs.Kept.{good-fresh}
 use Rattle.promises.specs.Standing.{Called}
 use Rattle.promises.specs.Table.{toldBy, ConditionTable, RequestAndStorage}
-use Rattle.promises.specs.Worthless.{NoRefuser, NoConstant, NoIdler, NoPretender, RefusesAll, Constant, WritesNothing, StoresNothing, refuser, constant, idler}
-use Rattle.promises.specs.Runs.{Run, upload, blank, segmentsFollow, three, entered}
+use Rattle.promises.specs.Worthless.{NoRefuser, NoConstant, NoIdler, NoPretender, RefusesAll, Constant, WritesNothing, StoresNothing, Keeps, refuser, constant, idler}
+use Rattle.promises.specs.Runs.{upload, blank, segmentsFollow, three, entered}
+use Rattle.promises.proofs.Whole.{each-follows}
 use Rattle.promises.proofs.Table.{condition-table, request-and-storage}
-use Rattle.promises.proofs.Demand3.{served-truly}
+use Rattle.promises.proofs.Demand3.{demand3, singles-follow, served-truly}
 use Rattle.promises.proofs.Computed.{runs-hold}
 
 -- ---- what the shipped desk tells, from the examples
@@ -96,6 +98,17 @@ module _ (S : Stand coeMachine Told) where
 
   pub no-pretender : NoPretender S
   no-pretender D P = P .not-here (served-truly S D (P .truly-alone) (P .calls))
+
+-- ---- the shipped desk is none of them
+
+pub shipped-keeps : Keeps deskStand
+shipped-keeps = record {
+  table = condition-table;
+  rules = request-and-storage;
+  sums = λ p h ks. each-follows (deskStand .fresh p) (good-fresh (p .counter) h) ks;
+  singles = singles-follow;
+  demand3 = demand3;
+}
 
 -- ---- the desks that are written down have these properties, so these speak of something
 

@@ -2,11 +2,11 @@
 -- "Order: enter 10, 11, 15; send and receive 10, 12, 13, 14, 16; leave 10, 12", with the conditions of "Numbers the desk gives back".
 -- Assumes nothing.
 use mathlib.Core.Path.{_≡_}
-use mathlib.Core.Bool.{Bool, true, not}
+use mathlib.Core.Bool.{true, not}
 use mathlib.Core.List.{List, [], _∷_}
 use mathlib.Core.Option.{Option, none, some}
-use Prim.Native.Nat.{ℕ, _/_}
-use lib.Dec.{eqb, ltb}
+use Prim.Native.Nat.{ℕ}
+use lib.Dec.{ltb}
 use lib.ListN.{length}
 use Rattle.wire.specs.Words.{within}
 use Rattle.wire.specs.Front.{inFront}
@@ -15,12 +15,12 @@ use Rattle.judge.specs.Answers.{plainOf, answerOf}
 use Rattle.judge.specs.Storage.{stored}
 use Rattle.judge.specs.declared.Answer.{Answer}
 use Rattle.line.specs.Line.{Line, seated}
-use Rattle.line.specs.Desk.{Pass, Call, enter, send, receive, leave, freshAt}
+use Rattle.line.specs.Desk.{Pass, enter, send, receive, leave, freshAt}
 use Rattle.line.specs.Stand.{Stand, after, lineStand}
 use Rattle.line.specs.Numbers.{Test, firstOf, leads, ofHead}
 use Rattle.transfer.specs.Entry.{unfitOf}
 use Rattle.transfer.specs.Due.{dueOf, requestDue}
-use Rattle.transfer.specs.Coe.{Lends, requestIn, judged, coeMachine}
+use Rattle.transfer.specs.Coe.{requestIn, judged, coeMachine}
 use Rattle.transfer.specs.declared.Transfer.{Transfer}
 use Rattle.desk.specs.Record.{Queue, Good, viewOf}
 use Rattle.desk.specs.Stand.{Told, lentBy, deskStand}

@@ -3,13 +3,13 @@
 use mathlib.Core.Path.{_≡_}
 use mathlib.Core.Bool.{Bool, true, false}
 use mathlib.Core.List.{List, []}
-use Prim.Native.Nat.{ℕ, _+_, _≤_}
+use Prim.Native.Nat.{ℕ, _+_}
 use lib.Dec.{eqb}
 use Rattle.wire.specs.Words.{pick, within, both}
 use Rattle.judge.specs.Answers.{plainOf, doneWith}
 use Rattle.judge.specs.declared.Answer.{Answer}
 use Rattle.line.specs.Lists.{Each, keep}
-use Rattle.line.specs.Desk.{Pass, passAt, send, receive}
+use Rattle.line.specs.Desk.{Pass, send, receive}
 use Rattle.line.specs.Stand.{Stand, trace}
 use Rattle.line.specs.Transfers.{transfers}
 use Rattle.line.specs.Alone.{Demand3Of, listedOf}
@@ -63,6 +63,14 @@ module _ (S : Stand coeMachine Told) where
 
   abbrev pub SumsAndBudget : Type 0
   SumsAndBudget = (p : Pass) → within 1 7 (p .counter) ≡ true → (ks : List Called) → Each Follows (entriesBy p ks)
+
+  -- what a desk has to keep; the shipped one does
+  pub record Keeps : Type 0 where
+    pub table : ConditionTable S
+    pub rules : RequestAndStorage S
+    pub sums : SumsAndBudget
+    pub singles : SinglesFollow S
+    pub demand3 : Demand3Of S isAnswered
 
 -- ---- the desks
 

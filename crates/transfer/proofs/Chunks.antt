@@ -1,5 +1,5 @@
 -- What a verdict of a transfer brings: the sum that it carries, that its chunk fits, and P. Assumes nothing.
-use mathlib.Core.Path.{_≡_, refl, sym, ap, _∙_}
+use mathlib.Core.Path.{_≡_, refl, sym, _∙_}
 use mathlib.Core.Bool.{Bool, true, false, false≢true}
 use mathlib.Core.List.{List, []}
 use Prim.Native.Nat.{ℕ, _+_, _≤_}
@@ -13,8 +13,6 @@ use Rattle.wire.proofs.Cases.{by}
 use Rattle.judge.specs.Answers.{answerOf}
 use Rattle.judge.specs.Download.{judgeDownload}
 use Rattle.judge.specs.Upload.{judgeUpload}
-use Rattle.judge.specs.Segment.{judgeSegment}
-use Rattle.judge.specs.Information.{judgeList}
 use Rattle.judge.specs.Storage.{taken}
 use Rattle.judge.specs.Run.{sumAfter}
 use Rattle.judge.specs.declared.Verdict.{Verdict}

@@ -4,5 +4,4 @@ pub mod Chunks
 pub mod Lives
 pub mod Payload
 pub mod Refusals
-pub mod Lived
 pub mod Cut

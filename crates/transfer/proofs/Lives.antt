@@ -1,17 +1,15 @@
 -- What a transfer keeps is true of its life: the sum, the count against the budget, the toggle. Assumes nothing.
 use mathlib.Core.Path.{_≡_, refl, sym, ap, ap₂, _∙_, subst}
 use mathlib.Core.Bool.{Bool, true, false, true≢false}
-use mathlib.Core.List.{List, [], _++_}
+use mathlib.Core.List.{List, []}
 use mathlib.Core.Option.{Option, none, some}
 use Prim.Native.Nat.{ℕ, suc, _+_, _-_, _%_, _≤_, _<_}
 use native.Mathlib.Omega.{arith}
 use borrow.Author.Tests.{leb-true, leb-false, eq-eqb, ne-eqb, eqb-false, eqb-true}
 use lib.Dec.{eqb, leb}
 use lib.ListN.{length, length-append}
-use Rattle.wire.specs.Words.{pick}
 use Rattle.wire.proofs.Cases.{by}
 use Rattle.services.specs.declared.Request.the-variants as request
-use Rattle.judge.specs.Answers.{answerOf}
 use Rattle.judge.specs.Storage.{taken}
 use Rattle.judge.specs.Run.{sumAfter}
 use Rattle.judge.specs.declared.Verdict.{Verdict}
@@ -26,8 +24,6 @@ use Rattle.transfer.specs.Life.{Life, begun, asked, fetched, replied, To
 use Rattle.transfer.specs.declared.Order.{Order}
 use Rattle.transfer.specs.declared.Transfer.{Transfer}
 use Rattle.transfer.specs.declared.due.Due.the-variants as due
-use Rattle.transfer.specs.declared.due.Reply.{Reply}
-use Rattle.transfer.specs.declared.due.Reply.the-variants as reply
 use Rattle.transfer.proofs.Chunks.{Ends, reply-adds, first-ends, by-reply, not-spent, done-unsettled}
 
 none≢some : {X : Type 0} {u : Transfer} → _≡_ {A = Option Transfer} none (some u) → X

@@ -19,7 +19,7 @@ use Rattle.judge.specs.Information.{judgeList}
 use Rattle.judge.specs.declared.Verdict.{Verdict}
 use Rattle.judge.specs.declared.Verdict.the-variants.{Refused}
 use Rattle.judge.proofs.Numbers.{upload-number, download-number, segment-number, list-number}
-use Rattle.line.specs.Machine.{Ruling, refuse, accept}
+use Rattle.line.specs.Machine.{refuse, accept}
 use Rattle.line.specs.Numbers.{is1x, RefusesOnly, Numbered}
 use Rattle.line.proofs.Rulings.{pick-accept, accept-eq}
 use Rattle.line.proofs.Refusals.{only-pick}

@@ -1,5 +1,5 @@
 -- One buffer, lent to every receive: after any replies it holds the chunks, joined, from its start. Assumes nothing.
-use mathlib.Core.Path.{_≡_, refl, sym, ap, _∙_}
+use mathlib.Core.Path.{_≡_, sym, ap, _∙_}
 use mathlib.Core.List.{List, [], _∷_, _++_}
 use Prim.Native.Nat.{ℕ, _+_, _≤_}
 use mathlib.Core.Bool.{true}
@@ -7,9 +7,7 @@ use native.Mathlib.Omega.{arith}
 use lib.Dec.{leb}
 use lib.ListN.{length, length-append}
 use Rattle.wire.specs.Store.{laid}
-use Rattle.judge.specs.Answers.{answerOf}
 use Rattle.judge.specs.Storage.{taken, stored}
-use Rattle.judge.specs.declared.Verdict.{Verdict}
 use Rattle.judge.proofs.Laid.{laid-nil, laid-front, laid-length, laid-join}
 use Rattle.judge.proofs.Payload.{segment-sound, list-sound}
 use Rattle.transfer.specs.Due.{dueOf}

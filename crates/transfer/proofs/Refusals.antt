@@ -1,13 +1,11 @@
 -- What a refusal leaves. Assumes nothing.
 use mathlib.Core.Path.{_≡_, refl, sym, ap, _∙_}
 use mathlib.Core.Bool.{Bool, true, false, false≢true}
-use mathlib.Core.List.{List}
 use mathlib.Core.Option.{Option, none}
 use Prim.Native.Nat.{ℕ}
 use borrow.Author.Tests.{lt-ltb}
 use lib.Dec.{ltb, leb}
 use lib.ListN.{length}
-use Rattle.wire.specs.Words.{pick}
 use Rattle.wire.proofs.Cases.{by}
 use Rattle.judge.specs.Answers.{doneOr, answerOf}
 use Rattle.judge.specs.declared.Verdict.{Verdict}

@@ -6,4 +6,3 @@ pub mod Coe
 pub mod Life
 pub mod Refusals
 pub mod Examples
-pub mod Lived

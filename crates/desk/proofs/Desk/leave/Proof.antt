@@ -1,6 +1,6 @@
 -- `leave` meets its contract: 10, 12, else the seat's slot is cut out.
 use borrow.Author.Tests.{lt-ltb, le-ltb}
-use mathlib.Core.Path.{_≡_, _∙_}
+use mathlib.Core.Path.{_∙_}
 use Prim.Native.Nat.{_<_}
 use native.Mathlib.Omega.{arith}
 use Rattle.line.proofs.Steps.{leave-10, leave-12}
