@@ -2,6 +2,7 @@
 // any position, and refuses what cannot be read with the number of what is undecodable.
 pub mod list;
 pub mod quantities;
+pub mod reader;
 pub mod typed;
 
 const UNDECODABLE: u8 = 0x20;

@@ -1,0 +1,2 @@
+pub mod DataLength
+pub mod Lent

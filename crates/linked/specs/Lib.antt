@@ -1,0 +1,4 @@
+pub mod Frames
+pub mod Judging
+pub mod Examples
+pub mod Reading

@@ -1,0 +1,125 @@
+/* The specification's examples, through C. */
+#include "test.h"
+
+static uint8_t digit(char c) { return (uint8_t)(c <= '9' ? c - '0' : c - 'a' + 10); }
+
+/* The bytes of lower-case hexadecimal text. */
+static size_t bytes_of(const char *text, uint8_t *bytes) {
+    size_t n = 0;
+    for (; text[2 * n] != 0; n++)
+        bytes[n] = (uint8_t)(16 * digit(text[2 * n]) + digit(text[2 * n + 1]));
+    return n;
+}
+
+/* Whether the buffer begins with the text's bytes, and is 0 behind them. */
+static int holds(const uint8_t *buffer, size_t len, const char *text) {
+    uint8_t expected[1486] = {0};
+    bytes_of(text, expected);
+    return memcmp(buffer, expected, len) == 0;
+}
+
+static int frames(void) {
+    uint8_t frame[20], data[1] = {0x08};
+    EXPECT("complete upload 0x1018, counter 7", 0x02, coe_upload_frame(7, 0x1018, 0, 1, frame, 20));
+    EXPECT("its bytes", 1, holds(frame, 20, "0a0000000073002050181001"));
+    EXPECT("download 0x6060:0, byte 08, counter 2", 0x02, coe_download_frame(2, 0x6060, 0, 0, data, 1, frame, 20));
+    EXPECT("its bytes", 1, holds(frame, 20, "0a000000002300202f60600008000000"));
+    EXPECT("segment request, counter 3, toggle 1", 0x02, coe_segment_frame(3, 1, frame, 20));
+    EXPECT("its bytes", 1, holds(frame, 20, "0a0000000033002070"));
+    EXPECT("list kind 1, counter 1", 0x02, coe_list_frame(1, 1, frame, 20));
+    EXPECT("its bytes", 1, holds(frame, 20, "0800000000130080010000000100"));
+    EXPECT("15 before 16", 0x15, coe_upload_frame(8, 0x1018, 0, 1, frame, 15));
+    return 0;
+}
+
+static coe_answer judged(uint8_t kind, uint32_t earlier, const char *text, uint8_t *data, size_t len) {
+    uint8_t reply[64];
+    size_t size = bytes_of(text, reply);
+    return coe_judge(kind, 0x1018, 1, earlier, reply, size, data, len);
+}
+
+static int replies(void) {
+    uint8_t data[64] = {0};
+    EXPECT("a reply of 11 bytes", 0x20, judged(1, 0, "0a00000000130030431810", data, 64).number);
+    EXPECT("12 bytes with type 6", 0x20, judged(1, 0, "0a0000000016003043181001", data, 64).number);
+    EXPECT("complete size N", 0x01, judged(1, 0, "0a000000001300304018100140000000", data, 64).number);
+    EXPECT("complete size N + 1", 0x24, judged(1, 0, "0a000000001300304018100141000000", data, 64).number);
+    coe_answer a = judged(7, 3, "0a000000001300300e00000000000000", data, 64);
+    EXPECT("segment length 10, unused 7", 0x01, a.number);
+    EXPECT("its chunk", 0, a.length);
+    a = judged(7, 3, "0b000000001300300e0000000102030405060708", data, 64);
+    EXPECT("segment length 11, unused 7", 0x01, a.number);
+    EXPECT("its chunk", 8, a.length);
+    EXPECT("where it lies", 0, memcmp(data, "\0\0\0\1\2\3\4\5\6\7\10\0", 12));
+    EXPECT("segment length 2", 0x26, judged(7, 0, "020000000013003000000000", data, 64).number);
+    a = judged(1, 9, "0a000000001300304e181001ff", data, 64);
+    EXPECT("expedited, size 3, indicator clear", 0x00, a.number);
+    EXPECT("its length", 1, a.length);
+    EXPECT("at the start, whatever came earlier", 0xff, data[0]);
+    a = judged(1, 0, "0a000000001300208018100100000206", data, 64);
+    EXPECT("an abort", 0x22, a.number);
+    EXPECT("its code", 0x06020000, a.code);
+    EXPECT("its index", 0x1018, a.index);
+    EXPECT("its sub-index", 1, a.sub);
+    return 0;
+}
+
+static int lists(void) {
+    uint8_t data[8] = {0};
+    coe_answer a = judged(4, 0, "0a000000001300808200000001000010", data, 8);
+    EXPECT("a first fragment, more to come", 0x02, a.number);
+    EXPECT("the list has begun", 1, a.sub);
+    EXPECT("its chunk", 2, a.length);
+    a = judged(8, 2, "0a00000000130080020000001810", data, 8);
+    EXPECT("the last fragment", 0x00, a.number);
+    EXPECT("the payload's length", 4, a.length);
+    coe_item item = coe_list_item(data, 4, 2);
+    EXPECT("the second index", 0x1018, item.index);
+    EXPECT("behind it", 4, item.next);
+    item = coe_list_item(data, 4, item.next);
+    EXPECT("the list's end", 0x20, item.number);
+    EXPECT("a refusal leaves the position", 4, item.next);
+    EXPECT("an unknown kind before an overlong buffer", 0x15, coe_judge(2, 0, 0, 0, NULL, 0, data, 131071).number);
+    return 0;
+}
+
+static int values(void) {
+    EXPECT("signed 16-bit ffff", -1, coe_read_i16((const uint8_t *)"\xff\xff", 2).value);
+    EXPECT("signed 16-bit 0080", -32768, coe_read_i16((const uint8_t *)"\x00\x80", 2).value);
+    EXPECT("a short payload", 0x20, coe_read_i16((const uint8_t *)"\x00", 1).number);
+    coe_quantities q = coe_read_quantities((const uint8_t *)"\1\0\2\0\3\0\4\0\5\1", 10);
+    EXPECT("quantities", 0x00, q.number);
+    EXPECT("the first", 1, q.all);
+    EXPECT("the second", 2, q.rx_pdo_mappable);
+    EXPECT("the third", 3, q.tx_pdo_mappable);
+    EXPECT("the fourth", 4, q.stored_for_device_replacement);
+    EXPECT("the last", 0x105, q.startup_parameters);
+    EXPECT("nine bytes", 0x20, coe_read_quantities((const uint8_t *)"\1\0\2\0\3\0\4\0\5", 9).number);
+    return 0;
+}
+
+/* Eight frames: the eighth has counter 1 again. And the budget of 2: the first segment, not the last, is 27. */
+static int turns(void) {
+    coe_desk desk;
+    uint8_t frame[16], data[64] = {0}, reply[64];
+    size_t size;
+    coe_desk_fresh(&desk);
+    for (int i = 0; i < 8; i++) {
+        EXPECT("enter", 0x01, coe_desk_enter(&desk, 5, 1, 0x1018, 1, NULL, 0).number);
+        EXPECT("send", 0x02, coe_desk_send(&desk, 5, frame, 16).number);
+        EXPECT("its counter", i % 7 + 1, frame[5] >> 4);
+        EXPECT("leave", 0x03, coe_desk_leave(&desk, 5).number);
+    }
+    EXPECT("enter with budget 2", 0x01, coe_desk_enter_within(&desk, 0, 1, 0x1018, 1, NULL, 0, 2).number);
+    EXPECT("send", 0x02, coe_desk_send(&desk, 0, frame, 16).number);
+    size = bytes_of("0a000000001300304018100120000000", reply);
+    EXPECT("segments follow", 0x01, coe_desk_receive(&desk, 0, reply, size, data, 64).number);
+    EXPECT("send", 0x02, coe_desk_send(&desk, 0, frame, 16).number);
+    size = bytes_of("0b00000000130030000000000102030405060708", reply);
+    EXPECT("the budget is spent", 0x27, coe_desk_receive(&desk, 0, reply, size, data, 64).number);
+    EXPECT("and nothing is stored", 0, data[0]);
+    EXPECT("the seat is free", 0x12, coe_desk_leave(&desk, 0).number);
+    return 0;
+}
+
+int examples(void) { return frames() || replies() || lists() || values() || turns(); }
