@@ -2,3 +2,4 @@ pub mod Frames
 pub mod Judging
 pub mod Examples
 pub mod Reading
+pub mod One

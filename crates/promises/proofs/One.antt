@@ -4,7 +4,6 @@ use mathlib.Core.List.{List, [], _∷_}
 use Prim.Native.Nat.{ℕ, zero, suc}
 use Rattle.judge.specs.Answers.{plainOf}
 use Rattle.desk.specs.Stand.{Told}
-use Rattle.lent.specs.Found.{found}
 use Rattle.promises.specs.One.{Unique}
 use Rattle.promises.specs.Standing.{Deed}
 
@@ -23,17 +22,9 @@ unique = record {
   equality = λ x a b p q. one a b p q;
   equalities = λ x y a b p q. λ i. (one (a .0) (b .0) (p .0) (q .0) i, one (a .1) (b .1) (p .1) (q .1) i);
   writers = λ f c r s a b p q. λ i. (one (a .0) (b .0) (p .answer) (q .answer) i, one (a .1) (b .1) (p .frame) (q .frame) i);
-  frames = λ f c r s a b p q. λ i. (one (a .0) (b .0) (p .answer) (q .answer) i, one (a .1) (b .1) (p .frame) (q .frame) i);
-  judges = λ k i u e s d a b p q. λ j. (one (a .0) (b .0) (p .0) (q .0) j, one (a .1) (b .1) (p .1) (q .1) j);
   fresh = λ c a b p q. one a b (p .empty) (q .empty);
   enter-leave = λ d k a b p q. one a b (p .told) (q .told);
   send-receive = λ d k s a b p q. λ i. (one (a .0) (b .0) (p .told) (q .told) i, one (a .1) (b .1) (p .lent) (q .lent) i);
-  lent-enter-leave = λ d k a b p q.
-      let same = one (found (a .0) (a .1)) (found (b .0) (b .1)) (p .told) (q .told) in
-      λ i. (same i .answer, same i .desk);
-  lent-send-receive = λ d k s a b p q.
-      let same = one (found (a .0) (a .1)) (found (b .0) (b .1)) (p .told) (q .told) in
-      λ i. (same i .answer, same i .desk, one (a .2) (b .2) (p .lent) (q .lent) i);
   run = λ s o f r d a b p q.
       let same = sym p ∙ q in
       λ i. (
