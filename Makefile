@@ -1,5 +1,5 @@
-# The two commands of the README: `make test` and `make run`.
-.PHONY: test run
+# The commands of the README: `make test`, `make run` and `make mutants`.
+.PHONY: test run mutants
 
 test:
 	@tools/test
@@ -7,3 +7,6 @@ test:
 run:
 	@tools/build requests
 	@tools/program requests
+
+mutants:
+	@tools/mutants
