@@ -1,12 +1,12 @@
-# The commands of the README: `make test`, `make run` and `make mutants`.
+# The commands of the README: `make test`, `make run` (`make run FILE=x` runs an order file of yours) and `make mutants`.
 .PHONY: test run mutants
 
 test:
 	@tools/test
 
 run:
-	@tools/build requests
-	@tools/program requests
+	@tools/build order
+	@tools/run-orders $(FILE)
 
 mutants:
 	@tools/mutants

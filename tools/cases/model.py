@@ -1,4 +1,4 @@
-"""Document 01's rules in Python: request frames, the judgement of one reply, reads.
+"""Document 01's rules in Python: request frames, the judgement of one reply, reads, the order program.
 
 What the project's cases expect is computed here. The judgement is taken over from the model with which vectors.tsv was made, so
 that its agreement with that table is no second opinion; the second opinion is the Rust's, in the rows tagged R."""
@@ -143,3 +143,88 @@ def item(payload, at):
 
 def quantities(payload):
     return None if len(payload) < 10 else [word(payload, i) for i in range(0, 10, 2)]
+
+
+# ---- the order program: what it prints for a text
+
+LONGEST, SPACE, BUDGET = 1486, 4096, 65535
+DIGITS = set(b"0123456789abcdef")
+
+
+def frame_in(line):
+    """The bytes of a line, or None where it is bad."""
+    if set(line) - DIGITS or len(line) % 2 or len(line) // 2 > LONGEST:
+        return None
+    return bytes.fromhex(line.decode())
+
+
+class Order:
+    """One transfer alone, from its entry on: the request that is due, and the judgement of its replies."""
+
+    def __init__(self, entry):
+        form, size = entry[:1].hex(), len(entry)
+        self.form, self.index, self.sub, self.data = form, word(entry, 1), 1, b""
+        good = {"01": size == 4, "02": size == 3, "03": 5 <= size <= 8, "04": size == 2 and 1 <= entry[1] <= 5, "05": size == 1}
+        if not good.get(form, False):
+            raise ValueError("no entry")
+        if form in ("01", "03"):
+            self.sub, self.data = entry[3], entry[4:]
+        self.kind = entry[1] if form == "04" else 0
+        self.counter, self.toggle, self.left, self.payload = 1, 0, BUDGET, b""
+        self.segments = self.begun = False
+
+    def request(self):
+        counter, self.counter = self.counter, self.counter % 7 + 1
+        if self.segments:
+            frame = segment(counter, self.toggle)
+            self.toggle ^= 1
+        elif self.form in ("04", "05"):
+            frame = object_list(counter, self.kind)
+        elif self.form == "03":
+            frame = download(counter, self.index, self.sub, 0, self.data)
+        else:
+            frame = upload(counter, self.index, self.sub, int(self.form == "02"))
+        return frame.ljust(16, b"\0").hex()
+
+    def judge(self, reply):
+        if self.form in ("04", "05"):
+            number, _, chunk = list_reply(reply, self.begun, len(self.payload), SPACE)
+        elif self.form == "03":
+            number, _, chunk = download_reply(reply, self.index, self.sub)
+        elif self.segments:
+            number, _, chunk = segment_reply(reply, len(self.payload), SPACE)
+        else:
+            number, _, chunk = upload_reply(reply, self.index, self.sub, SPACE)
+        self.left -= 1
+        if self.left == 0 and number in (0x01, 0x02):
+            return 0x27
+        self.segments = self.segments or number == 0x01
+        self.begun = self.begun or chunk is not None
+        self.payload += chunk or b""
+        return number
+
+
+def printed(text):
+    """The text that the order program prints for a text, both bytes."""
+    lines = text.split(b"\n")
+    if not lines[-1]:
+        lines.pop()
+    out = []
+    try:
+        order = Order(frame_in(lines[0]) if lines and frame_in(lines[0]) is not None else b"")
+        out.append(order.request())
+        for line in lines[1:]:
+            reply = frame_in(line)
+            if reply is None:
+                raise ValueError("no frame")
+            number = order.judge(reply)
+            if number == 0x01:
+                out.append(order.request())
+            elif number != 0x02:
+                out.append(f"{number:02x}" + (order.payload[:SPACE].hex() if number == 0x00 else ""))
+                break
+        else:
+            out.append("03")
+    except ValueError:
+        out.append("ff")
+    return "".join(line + "\n" for line in out).encode()

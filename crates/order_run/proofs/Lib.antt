@@ -1,0 +1,9 @@
+pub mod Printing
+pub mod Forms
+pub mod Spoken
+pub mod Parts
+pub mod Characters
+pub mod Feeding
+pub mod Closing
+pub mod Pieces
+pub mod Whole

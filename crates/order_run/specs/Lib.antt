@@ -1,0 +1,5 @@
+pub mod Entry
+pub mod Turns
+pub mod Printed
+pub mod Feed
+pub mod Examples
