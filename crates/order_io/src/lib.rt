@@ -5,8 +5,9 @@ use order_run::ROOM;
 use order_run::Run;
 use order_run::turns::OVER;
 ghost use mathlib.Core.Path.{_≡_};
-ghost use lib.ListN.{length};
-ghost use Rattle.order_run.specs.Feed.{Going};
+ghost use lib.ListN.{length, take};
+ghost use Rattle.order_run.specs.Feed.{stOf, after, finished, Going};
+ghost use Rattle.order_io.specs.Shown.{Shows};
 
 // The room for what a piece prints. Its contract gives the length alone: the prover would write the zeros out.
 pub fn space() -> [u8; ROOM]
@@ -30,7 +31,7 @@ pub fn fed(
     out: &mut [u8; ROOM],
 ) -> Run
     requires { ⌜ Going run ⌝ }
-    ensures { λ r. ⌜ Going r ⌝ }
+    ensures { λ r. ⌜ Shows (after (stOf run (now (frame .entry)) (now («data» .entry))) (take 4096 (now (text .entry)))) r (now (frame .exit)) (now («data» .exit)) (now (out .entry)) (now (out .exit)) ⌝ }
 {
     let fed = order_run::feed(run, text, frame, data, out);
     print(out, fed.printed);
@@ -40,7 +41,7 @@ pub fn fed(
 // The end of the input.
 pub fn ended(run: Run, frame: &mut [u8; 1486], data: &mut [u8; 4096], out: &mut [u8; ROOM]) -> Run
     requires { ⌜ Going run ⌝ }
-    ensures { λ r. ⌜ Going r ⌝ }
+    ensures { λ r. ⌜ Shows (finished (stOf run (now (frame .entry)) (now («data» .entry)))) r (now (frame .exit)) (now («data» .exit)) (now (out .entry)) (now (out .exit)) ⌝ }
 {
     let fed = order_run::finish(run, frame, data, out);
     print(out, fed.printed);

@@ -7,3 +7,4 @@ pub mod Feeding
 pub mod Closing
 pub mod Pieces
 pub mod Whole
+pub mod One

@@ -3,3 +3,4 @@ pub mod Turns
 pub mod Printed
 pub mod Feed
 pub mod Examples
+pub mod One

@@ -1,0 +1,14 @@
+-- `Shows` leaves one answer. Assumes nothing.
+use mathlib.Core.Path.{_≡_, sym, _∙_}
+use Rattle.order_io.specs.Shown.{One}
+
+one : {A : Type 0} {x : A} (a b : A) → a ≡ x → b ≡ x → a ≡ b
+one a b p q = p ∙ sym q
+
+pub unique : One
+unique x out a b p q = λ i. (
+  one (a .0) (b .0) (p .told) (q .told) i,
+  one (a .1) (b .1) (p .framed) (q .framed) i,
+  one (a .2) (b .2) (p .stored) (q .stored) i,
+  one (a .3) (b .3) (p .printed) (q .printed) i,
+)
