@@ -1,6 +1,6 @@
 """Document 01's rules in Python: request frames, the judgement of one reply, reads, the order program.
 
-What the project's cases expect is computed here. The judgement is taken over from the model with which vectors.tsv was made, so
+What the project's cases expect is computed here. The judgement is that of the model with which vectors.tsv was made, so
 that its agreement with that table is no second opinion; the second opinion is the Rust's, in the rows tagged R."""
 
 TYPES = {0, 1, 2, 3, 4, 5, 15}
