@@ -4,3 +4,4 @@ pub mod Printed
 pub mod Feed
 pub mod Examples
 pub mod One
+pub mod Files
