@@ -69,9 +69,9 @@ at : (t : List ℕ) (i : ℕ) → i < length t → drop i t ≡ getD t i 0 ∷ d
 at t i h = rw (drop-cons t i 0 h, add-one i)
 
 module _ {t : List ℕ} {s₁ : St} {o₁ : List ℕ} {d : Desk} {ph : ℕ} {p : Part} {f k o : List ℕ} {n i : ℕ} where
-  pub digits-start : Lines t s₁ o₁ (st d ph p f k) o n i → length t ≤ 4096 → i < length t → (ph ≡ 2 → ⊥)
+  pub digits-start : Lines t s₁ o₁ (st d ph p f k) o n i → length t ≤ 4096 → (ph ≡ 2 → ⊥)
       → Digits t k d ph p f o n i d ph p f o n i
-  digits-start L m h g =
+  digits-start L m g =
       record {
         within = L .within;
         onward = omega arith;
@@ -83,7 +83,7 @@ module _ {t : List ℕ} {s₁ : St} {o₁ : List ℕ} {d : Desk} {ph : ℕ} {p :
         phase = refl;
         out = refl;
         printed = refl;
-        room = omega (arith, L .printed, L .short g, L .outs .0);
+        room = omega (arith, L .within, L .printed, L .short g, L .outs .0);
         goes = refl;
       }
 
@@ -107,19 +107,18 @@ module _ {t : List ℕ} {s₁ : St} {o₁ : List ℕ} {d : Desk} {ph : ℕ} {p :
 
 module _ {t k : List ℕ} {d₁ : Desk} {ph₁ : ℕ} {p₁ : Part} {f₁ o₁ : List ℕ} {n₁ i₁ : ℕ} {d : Desk} {ph : ℕ} {p : Part} {f o : List ℕ} {n i : ℕ}
     (D : Digits t k d₁ ph₁ p₁ f₁ o₁ n₁ i₁ d ph p f o n i) where
-  pub digits-more : {p₂ p₃ : Part} {f₂ f₃ : List ℕ} {m : ℕ} → i < length t → (getD t i 0 ≡ 10 → ⊥) → fails p (getD t i 0) ≡ false
+  pub digits-put : {p₂ : Part} {f₂ : List ℕ} → i < length t → (getD t i 0 ≡ 10 → ⊥) → fails p (getD t i 0) ≡ false
       → p₂ ≡ putPart p (digitOf (getD t i 0)) → f₂ ≡ putFrame p (digitOf (getD t i 0)) f → length f₂ ≡ 1486
-      → Whole (drop (i + 1) t) (p₂ .count) f₂ m f₃ → (0 < m → p₂ .half ≡ 16) → length f₃ ≡ 1486 → p₃ ≡ further p₂ m
-      → Digits t k d₁ ph₁ p₁ f₁ o₁ n₁ i₁ d ph p₃ f₃ o n (i + 1 + 2 * m)
-  digits-more {p₂} {p₃} {f₂} {f₃} {m} h z e a b l w g l₃ r =
+      → Digits t k d₁ ph₁ p₁ f₁ o₁ n₁ i₁ d ph p₂ f₂ o n (i + 1)
+  digits-put {p₂} {f₂} h z e a b l =
       let c = getD t i 0 in
       record {
-        within = omega (arith, w .there, length-drop (i + 1) t);
+        within = omega arith;
         onward = omega (arith, D .onward);
         good = D .good;
-        begun = rw r (begun-further p₂ m (rw a (begun-put p c f (D .begun) e)) (w .room) g);
+        begun = rw a (begun-put p c f (D .begun) e);
         going = D .going;
-        long = l₃;
+        long = l;
         desk = D .desk;
         phase = D .phase;
         out = D .out;
@@ -129,10 +128,29 @@ module _ {t k : List ℕ} {d₁ : Desk} {ph₁ : ℕ} {p₁ : Part} {f₁ o₁ :
             D .goes
             ∙ ap (after (st d ph p f k)) (at t i h)
             ∙ after-put (st d ph p f k) (drop (i + 1) t) (D .going) c z e
-            ∙ ap (λ (x : St). after x (drop (i + 1) t)) (λ j. st d ph (sym a j) (sym b j) k)
-            ∙ after-whole d ph k (D .going) p₂ f₂ (drop (i + 1) t) m f₃ l w g
-            ∙ ap (λ (x : Part). after (st d ph x f₃ k) (drop (2 * m) (drop (i + 1) t))) (sym r)
-            ∙ ap (after (st d ph p₃ f₃ k)) (drop-drop (2 * m) (i + 1) t);
+            ∙ ap (λ (x : St). after x (drop (i + 1) t)) (λ j. st d ph (sym a j) (sym b j) k);
+      }
+
+  pub digits-whole : {p₂ : Part} {f₂ : List ℕ} {m : ℕ} → Whole (drop i t) (p .count) f m f₂ → (0 < m → p .half ≡ 16) → length f₂ ≡ 1486
+      → p₂ ≡ further p m → Digits t k d₁ ph₁ p₁ f₁ o₁ n₁ i₁ d ph p₂ f₂ o n (i + 2 * m)
+  digits-whole {p₂} {f₂} {m} w g l r =
+      record {
+        within = omega (arith, w .there, length-drop i t, D .within);
+        onward = omega (arith, D .onward);
+        good = D .good;
+        begun = rw r (begun-further p m (D .begun) (w .room) g);
+        going = D .going;
+        long = l;
+        desk = D .desk;
+        phase = D .phase;
+        out = D .out;
+        printed = D .printed;
+        room = D .room;
+        goes =
+            D .goes
+            ∙ after-whole d ph k (D .going) p f (drop i t) m f₂ (D .long) w g
+            ∙ ap (λ (x : Part). after (st d ph x f₂ k) (drop (2 * m) (drop i t))) (sym r)
+            ∙ ap (after (st d ph p₂ f₂ k)) (drop-drop (2 * m) i t);
       }
 
 module _ {t : List ℕ} {s₁ : St} {o₁ : List ℕ} {s : St} {o : List ℕ} {n i : ℕ} (L : Lines t s₁ o₁ s o n i) where

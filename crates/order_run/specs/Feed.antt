@@ -5,7 +5,7 @@ use mathlib.Core.Path.{_≡_}
 use mathlib.Core.Bool.{Bool, true, false}
 use mathlib.Core.List.{List, [], _∷_, _++_}
 use lib.Dec.{eqb, ltb, leb}
-use lib.ListN.{length, set, take}
+use lib.ListN.{length, getD, set, take}
 use lib.Seq.{paste}
 use Rattle.wire.specs.Words.{pick}
 use Rattle.wire.specs.Store.{laid}
@@ -122,6 +122,11 @@ pub record Begun (p : Part) : Type 0 where
 
 abbrev pub further : Part → ℕ → Part
 further p more = part (p .count + more) (p .half)
+
+-- the digits of all characters
+pub record Table (t : List ℕ) : Type 0 where
+  pub long : length t ≡ 256
+  pub digits : (c : ℕ) → c < 256 → getD t c 0 ≡ digitOf c
 
 -- r bytes that the text t begins with, stored in the frame f from a place on
 pub record Whole (t : List ℕ) (at : ℕ) (f : List ℕ) (r : ℕ) (f′ : List ℕ) : Type 0 where

@@ -6,6 +6,7 @@ pub mod turns;
 
 use desk::Desk;
 use digits::Part;
+use digits::digit_table;
 use digits::further;
 use digits::is_bad;
 use digits::is_begun;
@@ -25,7 +26,7 @@ ghost use Prim.Native.Nat.{_+_, _*_, _≤_};
 ghost use lib.ListN.{length, take};
 ghost use Rattle.desk.specs.Record.{Good};
 ghost use Rattle.order_run.specs.Turns.{Turned};
-ghost use Rattle.order_run.specs.Feed.{stOf, st, after, lineEnded, finished, endSaid, endKept, Begun, Going, Starts, Feeds};
+ghost use Rattle.order_run.specs.Feed.{stOf, st, after, lineEnded, finished, endSaid, endKept, Begun, Table, Going, Starts, Feeds};
 
 // The most characters of a piece, and the room for what a piece prints: a request for each of them, 33 characters, and the longest line
 // that ends a run, 00 and 4,096 bytes.
@@ -81,8 +82,16 @@ fn line_end(
 }
 
 // "nested loops over lines and digits, left by a label at the first bad character"
-fn feed_piece(run: Run, text: &[u8], frame: &mut [u8], data: &mut [u8], out: &mut [u8]) -> Fed
+fn feed_piece(
+    run: Run,
+    table: &[u8; 256],
+    text: &[u8],
+    frame: &mut [u8],
+    data: &mut [u8],
+    out: &mut [u8],
+) -> Fed
     requires { ⌜ Going run ⌝ }
+    requires { ⌜ Table (now table) ⌝ }
     requires { ⌜ length (now text) ≤ 4096 ⌝ }
     requires { ⌜ (length (now frame) ≡ 1486) × (length (now «data») ≡ 4096) × (length (now out) ≡ 143363) ⌝ }
     ensures { λ r. ⌜ Feeds (after (stOf run (now (frame .entry)) (now («data» .entry))) (now (text .entry))) (length (now (text .entry))) r (now (frame .exit)) (now («data» .exit)) (now (out .entry)) (now (out .exit)) ⌝ }
@@ -96,6 +105,9 @@ fn feed_piece(run: Run, text: &[u8], frame: &mut [u8], data: &mut [u8], out: &mu
         if phase == OVER {
             break 'lines;
         }
+        let whole = whole_bytes(table, text, i, part, frame);
+        part = further(part, whole);
+        i += 2 * whole;
         while i < text.len() {
             let c = text[i];
             if c == b'\n' {
@@ -111,7 +123,7 @@ fn feed_piece(run: Run, text: &[u8], frame: &mut [u8], data: &mut [u8], out: &mu
             }
             part = put(part, order_text::digit(c), frame);
             i += 1;
-            let more = whole_bytes(text, i, part, frame);
+            let more = whole_bytes(table, text, i, part, frame);
             part = further(part, more);
             i += 2 * more;
         }
@@ -140,7 +152,8 @@ pub fn feed(
     ensures { λ r. ⌜ Feeds (after (stOf run (now (frame .entry)) (now («data» .entry))) (take 4096 (now (text .entry)))) 4096 r (now (frame .exit)) (now («data» .exit)) (now (out .entry)) (now (out .exit)) ⌝ }
 {
     let end = least(PIECE, text.len());
-    feed_piece(run, &text[..end], frame, data, out)
+    let table = digit_table();
+    feed_piece(run, &table, &text[..end], frame, data, out)
 }
 
 // A last line that lacks its line end gets it.

@@ -13,22 +13,22 @@ use Rattle.order_run.proofs.feed.Statement.{statement}
 use Rattle.order_run.proofs.feed.Tie as tie
 
 slice-aggregate-feed-piece : tie.Need-slice-aggregate-feed-piece
-slice-aggregate-feed-piece c = simp length-take (omega (arith, c .before .least .ensures))
+slice-aggregate-feed-piece c = simp length-take (omega (arith, c .before .before .before .least .ensures))
 
 feed-piece-requires : tie.Need-feed-piece-requires
 feed-piece-requires c κs =
-    (c .before .before .before .before .before .before .pre, (simp length-take (omega (arith, c .before .before .before .before .least .ensures)), (search needs, search needs, search needs)))
+    (c .before .before .before .before .before .before .before .before .pre, (c .before .before .before .before .before .digit-table .ensures, (simp length-take (omega (arith, c .before .before .before .before .before .before .least .ensures)), (search needs, search needs, search needs))))
 
 returns : tie.Need-returns
 returns c =
-    let a = c .before .before .before .before .before .before .before .args in
+    let a = c .before .before .before .before .before .before .before .before .before .args in
     let f = c .feed-piece in
-    let e : take (c .before .before .before .before .before .least .result) (now (a .text)) ≡ take 4096 (now (a .text)) =
-    ap (λ (n : ℕ). take n (now (a .text))) (c .before .before .before .before .before .least .ensures) ∙ take-least 4096 (now (a .text)) in
+    let e : take (c .before .before .before .before .before .before .before .least .result) (now (a .text)) ≡ take 4096 (now (a .text)) =
+    ap (λ (n : ℕ). take n (now (a .text))) (c .before .before .before .before .before .before .before .least .ensures) ∙ take-least 4096 (now (a .text)) in
     subst
-    (λ (t : List ℕ). Feeds (after (stOf (a .run) (now (a .frame)) (now (a .«data»))) t) 4096 (f .result) (f .last .1 .1 .0) (f .last .1 .1 .1 .0) (now (a .out)) (f .last .1 .1 .1 .1 .0))
-    e (feeds-within (simp length-take (omega (arith, c .before .before .before .before .before .least .ensures))) (f .ensures))
+    (λ (t : List ℕ). Feeds (after (stOf (a .run) (now (a .frame)) (now (a .«data»))) t) 4096 (f .result) (f .last .1 .1 .1 .0) (f .last .1 .1 .1 .1 .0) (now (a .out)) (f .last .1 .1 .1 .1 .1 .0))
+    e (feeds-within (simp length-take (omega (arith, c .before .before .before .before .before .before .before .least .ensures))) (f .ensures))
 
 pub feed-spec : {M : Type 1} → statement M
 feed-spec =
-    tie.close (tie.spec (λ c κs. search needs) slice-aggregate-feed-piece feed-piece-requires returns)
+    tie.close (tie.spec (λ c κs. search needs) (λ c κs. tt) slice-aggregate-feed-piece feed-piece-requires returns)

@@ -17,13 +17,13 @@ returns c =
     let a = c .before .before .before .before .before .before .before .before .before .args in
     let t = now (a .text) in
     let all = take-all (length t - a .from) (drop (a .from) t) (omega (arith, length-drop (a .from) t)) in
-    (subst (λ (x : List ℕ). Whole x (a .part .count) (now (a .frame)) (c .before .before .pairs .result) (c .before .before .pairs .last .1 .0)) all (c .before .before .pairs .ensures), λ h. c .before .before .before .before .before .if1 .taken)
+    (subst (λ (x : List ℕ). Whole x (a .part .count) (now (a .frame)) (c .before .before .pairs .result) (c .before .before .pairs .last .1 .1 .0)) all (c .before .before .pairs .ensures), λ h. c .before .before .before .before .before .if1 .taken)
 
 returns-2 : tie.Need-returns-2
 returns-2 c =
     let e = c .before .before .before .before in
     let a = e .args in
-    (none-whole (drop (a .from) (now (a .text))) (now (a .frame)) (a .part .count) (e .pre .1 .0 .room), λ (h : 0 < 0). absurd (omega arith))
+    (none-whole (drop (a .from) (now (a .text))) (now (a .frame)) (a .part .count) (e .pre .1 .1 .0 .room), λ (h : 0 < 0). absurd (omega arith))
 
 pub whole-bytes-spec : {M : Type 1} → statement M
 whole-bytes-spec =
