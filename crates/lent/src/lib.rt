@@ -4,7 +4,6 @@ use desk::Called;
 use desk::Desk;
 use judge::Answer;
 use order::order_from;
-ghost use mathlib.Core.Path.{_≡_};
 ghost use Rattle.line.specs.Desk.{Call};
 ghost use Rattle.desk.specs.Record.{Good};
 ghost use Rattle.desk.specs.Calls.{Fresh, Gives, GivesLent};

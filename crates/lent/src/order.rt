@@ -1,7 +1,6 @@
 // An order as a host hands it in: numbers, and a download's data as a slice.
 use transfer::Order;
 ghost use mathlib.Core.Path.{_≡_};
-ghost use lib.ListN.{length};
 ghost use Rattle.lent.specs.Order.{lenOf, orderFrom};
 
 fn len_of(n: usize) -> u8

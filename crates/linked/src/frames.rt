@@ -1,7 +1,6 @@
 // The request writers: 02 for a written frame, and 15 before 16.
 use services::checked;
 use services::number_of;
-ghost use mathlib.Core.Path.{_≡_};
 ghost use mathlib.Core.Bool.{true};
 ghost use lib.Dec.{leb, eqb};
 ghost use lib.ListN.{length};

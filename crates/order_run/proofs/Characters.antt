@@ -1,25 +1,24 @@
 -- Laws of the run by characters, one for each way that a character goes. Assumes nothing.
 use Prim.Native.Nat.{ℕ, zero, suc, _+_, _*_, _<_, _≤_}
 use mathlib.Core.Path.{_≡_, refl, sym, ap, _∙_}
-use mathlib.Core.Bool.{Bool, true, false, true≢false}
-use mathlib.Core.List.{List, [], _∷_, _++_, append-nil}
+use mathlib.Core.Bool.{true, false, true≢false}
+use mathlib.Core.List.{List, [], _∷_, append-nil}
 use native.Mathlib.Omega.{arith}
 use native.Mathlib.Nat.{add-zero}
-use lib.Dec.{eqb, ltb, leb}
+use lib.Dec.{eqb, ltb}
 use lib.ListN.{length, getD, set, take, drop, length-take}
 use lib.Seq.{paste, paste-zero, drop-cons, getD-take}
 use borrow.Author.Tests.{eq-eqb, ne-eqb, eqb-true, eqb-false, leb-false, lt-leb, ltb-false, ltb-true}
-use Rattle.wire.specs.Words.{pick}
 use Rattle.wire.proofs.Cases.{by}
 use Rattle.desk.specs.Record.{emptyAt}
 use Rattle.desk.specs.Calls.{Fresh}
 use Rattle.desk.specs.declared.Desk.{Desk}
 use Rattle.order_text.specs.Digits.{digitOf, byteOf}
-use Rattle.order_text.specs.Lines.{hasBad, bytesOf}
+use Rattle.order_text.specs.Lines.{bytesOf}
 use Rattle.order_text.proofs.Digits.{byte-digits}
 use Rattle.order_text.proofs.Lines.{digit-at}
 use Rattle.order_run.specs.Turns.{failed, afterFrame, keptFrame}
-use Rattle.order_run.specs.Feed.{part, nothing, further, St, st, Did, behind, endSaid, endKept, ended, stopped, fails, putPart, putFrame, put, afterChar, after, Begun, Whole, Starts}
+use Rattle.order_run.specs.Feed.{part, nothing, further, St, st, Did, behind, endSaid, endKept, ended, stopped, fails, putPart, put, afterChar, after, Begun, Whole, Starts}
 use Rattle.order_run.specs.declared.digits.Part.{Part}
 use Rattle.order_run.proofs.Parts.{fails-room, fails-not, fails-digit, put-first, put-second, pair-stored}
 

@@ -1,8 +1,8 @@
 -- Laws of the input's end, and of a piece that is cut to its room. Assumes nothing.
-use Prim.Native.Nat.{ℕ, _+_, _-_, _*_, _≤_, min}
+use Prim.Native.Nat.{ℕ, _+_, _-_, _≤_, min}
 use mathlib.Core.Path.{_≡_, refl, sym, ap, _∙_}
 use mathlib.Core.Bool.{true, false}
-use mathlib.Core.List.{List, [], _∷_, _++_, append-nil}
+use mathlib.Core.List.{List, [], _∷_, append-nil}
 use native.Mathlib.Omega.{arith}
 use lib.Dec.{eqb, ltb}
 use lib.ListN.{length, length-append}
@@ -13,7 +13,7 @@ use Rattle.judge.proofs.Laid.{laid-join, laid-nil}
 use Rattle.desk.specs.declared.Desk.{Desk}
 use Rattle.wire.proofs.Cases.{by}
 use Rattle.order_run.specs.Turns.{Said, afterAll, Turned}
-use Rattle.order_run.specs.Feed.{nothing, St, st, Did, behind, read, after, begun, lineEnded, closed, finished, Going, stOf, runOf, Feeds}
+use Rattle.order_run.specs.Feed.{nothing, St, st, Did, behind, read, after, begun, lineEnded, closed, finished, Going, stOf, Feeds}
 use Rattle.order_run.specs.declared.Run.{Run}
 use Rattle.order_run.specs.declared.digits.Part.{Part}
 use Rattle.order_run.specs.declared.turns.Turn.{Turn}

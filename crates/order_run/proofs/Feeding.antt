@@ -13,10 +13,9 @@ use Rattle.desk.specs.Record.{Good}
 use Rattle.desk.specs.declared.Desk.{Desk}
 use Rattle.order_text.specs.Digits.{digitOf}
 use Rattle.order_run.specs.Turns.{Said, failed, Turned}
-use Rattle.order_run.specs.Feed.{nothing, further, St, st, Did, behind, stopped, endSaid, endKept, ended, fails, putPart, putFrame, put, after, Begun, Whole, Going, Feeds, runOf}
+use Rattle.order_run.specs.Feed.{nothing, further, St, st, behind, stopped, endSaid, endKept, ended, fails, putPart, putFrame, after, Begun, Whole, Feeds, runOf}
 use Rattle.order_run.specs.declared.digits.Part.{Part}
 use Rattle.order_run.specs.declared.turns.Turn.{Turn}
-use Rattle.order_run.specs.declared.Fed.{Fed}
 use Rattle.order_run.proofs.Characters.{nothing-begun, still, after-over, after-none, after-line, after-put, after-bad, begun-put, begun-further, after-whole}
 
 -- between two digits of a line: from where the line was gone on with, what is left gives the same, and nothing is printed

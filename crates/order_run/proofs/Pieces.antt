@@ -1,13 +1,12 @@
 -- How the input was cut plays no part: pieces print what the joined text prints at once. Assumes nothing.
 use Prim.Native.Nat.{ℕ}
 use mathlib.Core.Path.{_≡_, refl, sym, ap, _∙_}
-use mathlib.Core.Bool.{Bool, true, false}
 use mathlib.Core.List.{List, [], _∷_, _++_, append-assoc}
 use lib.Dec.{eqb}
-use borrow.Author.Tests.{eqb-true, eqb-false, eq-eqb, ne-eqb}
+use borrow.Author.Tests.{eqb-true}
 use Rattle.wire.proofs.Cases.{by}
 use Rattle.order_run.specs.Feed.{St, Did, behind, afterChar, after, finished, inPieces, joined}
-use Rattle.order_run.proofs.Characters.{still, after-over}
+use Rattle.order_run.proofs.Characters.{after-over}
 
 -- two pieces, one behind the other
 pub after-append : (a b : List ℕ) (s : St) → after s (a ++ b) ≡ behind (after s a .text) (after (after s a .st) b)

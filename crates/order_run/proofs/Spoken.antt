@@ -7,17 +7,16 @@ use lib.ListN.{length, take, replicate, length-take}
 use borrow.Author.Tests.{eq-eqb, ne-eqb}
 use Rattle.wire.specs.Words.{pick}
 use Rattle.wire.specs.Store.{laid}
-use Rattle.line.specs.Desk.{enter, send, receive, leave}
+use Rattle.line.specs.Desk.{enter, receive, leave}
 use Rattle.transfer.specs.declared.Order.{Order}
 use Rattle.desk.specs.Record.{Good}
 use Rattle.desk.specs.Calls.{Gives, GivesLent}
 use Rattle.desk.specs.declared.Desk.{Desk}
 use Rattle.desk.specs.declared.Called.{Called}
 use Rattle.judge.proofs.Laid.{laid-join, laid-nil}
-use Rattle.order_text.specs.Digits.{charOf}
 use Rattle.order_text.specs.Text.{hexText, textIn}
 use Rattle.order_run.specs.Entry.{formOf}
-use Rattle.order_run.specs.Turns.{called, lentBack, lineText, Said, last, failed, sending, request, afterEnter, afterForm, afterReceive, afterReply, keptReply, afterFrame, keptFrame, afterAll, turnOf, Turned}
+use Rattle.order_run.specs.Turns.{called, lentBack, lineText, Said, last, failed, sending, request, afterEnter, afterForm, afterReceive, afterReply, keptReply, afterFrame, keptFrame, afterAll, Turned}
 use Rattle.order_run.specs.declared.entry.Form.the-variants.{Listed, Unlisted}
 use Rattle.order_run.specs.declared.turns.Turn.{Turn}
 use Rattle.order_run.proofs.Printing.{length-line, all-text, take-least}

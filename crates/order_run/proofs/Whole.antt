@@ -1,7 +1,7 @@
 -- The whole program: what it prints for an input that was read in pieces is what the document says of its lines. Assumes nothing.
-use Prim.Native.Nat.{ℕ, suc, _+_, _*_, _/_, _%_, _<_, _≤_}
+use Prim.Native.Nat.{ℕ, _+_, _*_, _/_, _<_, _≤_}
 use mathlib.Core.Path.{_≡_, refl, sym, ap, _∙_, subst}
-use mathlib.Core.Bool.{Bool, true, false, true≢false}
+use mathlib.Core.Bool.{true, false, true≢false}
 use mathlib.Core.List.{List, [], _∷_, _++_, append-assoc, append-nil}
 use native.Mathlib.Omega.{arith}
 use lib.Dec.{eqb, ltb}
@@ -9,21 +9,20 @@ use lib.ListN.{length, set, take, replicate, length-append, length-set}
 use lib.Seq.{take-suc-set}
 use native.Mathlib.Numerals.{add-one}
 use borrow.Author.Tests.{eqb-true, eqb-false, eq-eqb, ne-eqb, ltb-true, ltb-false, leb-true, leb-false, lt-ltb, le-ltb}
-use Rattle.wire.specs.Words.{pick, either}
 use Rattle.wire.proofs.Cases.{by}
 use Rattle.desk.specs.Record.{emptyAt}
 use Rattle.desk.specs.declared.Desk.{Desk}
 use Rattle.order_text.specs.Digits.{digitOf, byteOf}
-use Rattle.order_text.specs.Lines.{hasBad, bytesOf, Line, good, bad, lineOf}
+use Rattle.order_text.specs.Lines.{hasBad, bytesOf, good, bad, lineOf}
 use Rattle.order_text.proofs.Digits.{byte-digits}
-use Rattle.order_text.proofs.Lines.{length-bytes, head-digit, tail-good}
+use Rattle.order_text.proofs.Lines.{head-digit, tail-good}
 use Rattle.order_text.proofs.Refused.{bad-character, odd-line, overlong-line, good-line, has-bad}
-use Rattle.order_run.specs.Turns.{Said, failed, afterLine, keptLine, afterAll, afterFrame, keptFrame}
-use Rattle.order_run.specs.Printed.{before, linesIn, said, printed}
-use Rattle.order_run.specs.Feed.{part, nothing, St, st, Did, behind, endSaid, endKept, ended, stopped, fails, putPart, putFrame, put, after, begun, lineEnded, closed, finished, inPieces, joined}
+use Rattle.order_run.specs.Turns.{Said, failed, afterLine, keptLine}
+use Rattle.order_run.specs.Printed.{linesIn, said, printed}
+use Rattle.order_run.specs.Feed.{part, nothing, St, st, Did, behind, endSaid, endKept, ended, stopped, fails, putFrame, put, after, begun, lineEnded, closed, finished, inPieces, joined}
 use Rattle.order_run.specs.declared.digits.Part.{Part}
 use Rattle.order_run.proofs.Parts.{fails-room, fails-not, put-first, put-second}
-use Rattle.order_run.proofs.Characters.{still, after-over, after-none, after-line, after-put, after-bad, put-digit, no-line-end, end-whole, end-odd}
+use Rattle.order_run.proofs.Characters.{after-over, after-none, after-line, after-put, after-bad, put-digit, no-line-end, end-whole, end-odd}
 use Rattle.order_run.proofs.Closing.{begun-bytes, begun-digit}
 use Rattle.order_run.proofs.Pieces.{total, pieces}
 

@@ -3,7 +3,6 @@ use Prim.Native.Nat.{ℕ}
 use mathlib.Core.Path.{_≡_, refl}
 use mathlib.Core.List.{List, [], _∷_, map}
 use Rattle.wire.specs.Bytes.{hex}
-use Rattle.transfer.specs.declared.Order.{Order}
 use Rattle.order_run.specs.declared.entry.Form.{Form}
 use Rattle.order_run.specs.declared.entry.Form.the-variants.{Listed, Unlisted}
 use Rattle.order_run.specs.Entry.{isForm, formOf}

@@ -8,7 +8,7 @@ use Rattle.wire.specs.Words.{pick}
 use Rattle.desk.specs.Record.{emptyAt}
 use Rattle.desk.specs.declared.Desk.{Desk}
 use Rattle.order_text.specs.Lines.{lineOf}
-use Rattle.order_run.specs.Turns.{Said, afterLine, keptLine, afterAll}
+use Rattle.order_run.specs.Turns.{afterLine, keptLine, afterAll}
 
 -- the lines of a text: "the last line may lack its line end", and behind the last line end is no line
 abbrev pub before : ℕ → List (List ℕ) → List (List ℕ)

@@ -1,6 +1,5 @@
 -- `turns` ends: it counts its turns down. The run stays one that calls made.
-use mathlib.Core.Path.{_≡_, refl, _∙_}
-use native.Mathlib.Omega.{arith}
+use mathlib.Core.Path.{_≡_, refl}
 use lib.ListN.{length}
 use borrow.Author.Needs.{needs}
 use Rattle.order_run.specs.Feed.{Going}

@@ -1,6 +1,6 @@
 -- `finish` meets its contract: the last line, and then what is left to say.
 use denote.Ref.{now}
-use Rattle.order_run.specs.Feed.{St, stOf}
+use Rattle.order_run.specs.Feed.{stOf}
 use Rattle.order_run.proofs.Closing.{closed-over, closing-room, closed-all}
 use borrow.Author.Needs.{needs}
 use Rattle.order_run.proofs.finish.Statement.{statement}

@@ -1,6 +1,4 @@
 -- `start` meets its contract: a fresh desk, and no line begun.
-use mathlib.Core.Path.{ap, _∙_}
-use native.Mathlib.Omega.{arith}
 use Rattle.order_run.proofs.Characters.{started}
 use borrow.Author.Needs.{needs}
 use Rattle.order_run.proofs.start.Statement.{statement}

@@ -1,5 +1,4 @@
 -- `is_begun` meets its contract.
-use borrow.Author.Needs.{needs}
 use mathlib.Core.Path.{sym}
 use Rattle.order_run.proofs.Closing.{begun-bytes, begun-digit}
 use Rattle.order_run.proofs.digits.is_begun.Statement.{statement}

@@ -1,5 +1,5 @@
 -- `pairs` meets its contract. The invariant: the first k bytes are stored, and their digits are good.
-use mathlib.Core.Path.{_≡_, refl}
+use mathlib.Core.Path.{_≡_}
 use mathlib.Core.Bool.{false}
 use Prim.Native.Nat.{_+_, _-_, _*_, _/_, _≤_}
 use native.Mathlib.Omega.{arith}

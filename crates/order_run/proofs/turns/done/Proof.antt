@@ -2,7 +2,6 @@
 use native.Mathlib.Omega.{arith}
 use denote.Ref.{now}
 use lib.ListN.{length-take}
-use Rattle.order_run.proofs.Printing.{all-text}
 use Rattle.order_run.proofs.Spoken.{done-turned, done-room}
 use borrow.Author.Needs.{needs}
 use Rattle.order_run.proofs.turns.done.Statement.{statement}
