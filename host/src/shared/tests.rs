@@ -1,7 +1,8 @@
 use super::*;
 use std::convert::Infallible;
 use std::panic::{catch_unwind, AssertUnwindSafe};
-use std::sync::mpsc::{channel, Receiver};
+use std::sync::mpsc::{channel, Receiver, Sender};
+use std::thread::Scope;
 use std::vec::Vec;
 
 /// Answers each upload with its own index, notes it, and waits for the gate before the first answer.
@@ -37,6 +38,22 @@ fn until_called(desk: &SharedDesk, calls: u64) {
     }
 }
 
+/// An upload in a thread of its own, which waits for its drive until what is given back is sent to; the desk has had `calls` calls then.
+fn waiting_upload<'scope>(
+    scope: &'scope Scope<'scope, '_>,
+    desk: &'scope SharedDesk,
+    served: &'scope Mutex<Vec<u16>>,
+    calls: u64,
+) -> Sender<()> {
+    let (open, gate) = channel();
+    scope.spawn(move || {
+        let mut mailbox = Gated { gate: Some(&gate), served, index: [0; 2] };
+        desk.transfer(Order::upload(7, 0), &mut [0; 4], &mut mailbox).map(|_| ()).unwrap();
+    });
+    until_called(desk, calls);
+    open
+}
+
 #[test]
 fn calls_are_served_in_the_order_they_came_in() {
     let (desk, served) = (SharedDesk::new(Duration::ZERO), Mutex::new(Vec::new()));
@@ -62,12 +79,7 @@ fn a_call_waits_for_those_before_it_though_seats_are_free() {
     desk.lock().calls = 1;
     std::thread::scope(|scope| {
         let (desk, served) = (&desk, &served);
-        let (open, gate) = channel();
-        scope.spawn(move || {
-            let mut mailbox = Gated { gate: Some(&gate), served, index: [0; 2] };
-            desk.transfer(Order::upload(7, 0), &mut [0; 4], &mut mailbox).map(|_| ()).unwrap();
-        });
-        until_called(desk, 2);
+        let open = waiting_upload(scope, desk, served, 2);
         assert_eq!(desk.lock().desk.leave(Seat::ALL[0]), Err(Refusal::SeatEmpty));
         desk.lock().seen_to = 1;
         desk.changed.notify_all();
@@ -81,12 +93,7 @@ fn others_can_enter_while_one_waits_for_its_drive() {
     let (desk, served) = (SharedDesk::new(Duration::ZERO), Mutex::new(Vec::new()));
     std::thread::scope(|scope| {
         let (desk, served) = (&desk, &served);
-        let (open, gate) = channel();
-        scope.spawn(move || {
-            let mut mailbox = Gated { gate: Some(&gate), served, index: [0; 2] };
-            desk.transfer(Order::upload(7, 0), &mut [0; 4], &mut mailbox).map(|_| ()).unwrap();
-        });
-        until_called(desk, 1);
+        let open = waiting_upload(scope, desk, served, 1);
         let mut mailbox = Gated { gate: None, served, index: [0; 2] };
         let refused = desk.transfer(Order::download(8, 0, &[]), &mut [], &mut mailbox);
         assert_eq!(refused, Err(TransferError::Refused(Refusal::BadOrder)), "judged at its entry, with the first still waiting");
