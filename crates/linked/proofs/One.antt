@@ -1,10 +1,7 @@
 -- Each shape leaves one answer. Assumes nothing.
-use mathlib.Core.Path.{_≡_, sym, _∙_}
+use Rattle.wire.proofs.One.{one}
 use Rattle.lent.specs.Found.{found}
 use Rattle.linked.specs.One.{Unique}
-
-one : {A : Type 0} {x : A} (a b : A) → a ≡ x → b ≡ x → a ≡ b
-one a b p q = p ∙ sym q
 
 pub unique : Unique
 unique = record {

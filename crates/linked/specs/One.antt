@@ -1,9 +1,9 @@
 -- Uniqueness of what is lent and exported: "that no second answer satisfies it is shown". Of the shapes of promises/specs/One, those that
 -- speak of a lent record, and the exported writers and judge. Assumes nothing.
-use mathlib.Core.Path.{_≡_}
 use mathlib.Core.Bool.{Bool}
 use mathlib.Core.List.{List}
 use Prim.Native.Nat.{ℕ}
+use Rattle.wire.specs.Words.{One}
 use Rattle.line.specs.Desk.{Call}
 use Rattle.services.specs.declared.Request.{Request}
 use Rattle.judge.specs.declared.Answer.{Answer}
@@ -13,10 +13,6 @@ use Rattle.desk.specs.declared.Desk.{Desk}
 use Rattle.lent.specs.Found.{found}
 use Rattle.linked.specs.Frames.{Frames}
 use Rattle.linked.specs.Judging.{Judges}
-
--- at most one answer satisfies the statement P
-abbrev pub One : {A : Type 0} → (A → Type 0) → Type 0
-One {A} P = (a b : A) → P a → P b → a ≡ b
 
 pub record Unique : Type 0 where
   pub frames : (fine : Bool) (counter : ℕ) (request : Request) (before : List ℕ)

@@ -1,11 +1,8 @@
 -- `Shows` leaves one answer. Assumes nothing.
-use mathlib.Core.Path.{_≡_, sym, _∙_}
-use Rattle.order_io.specs.Shown.{One}
+use Rattle.wire.proofs.One.{one}
+use Rattle.order_io.specs.Shown.{Unique}
 
-one : {A : Type 0} {x : A} (a b : A) → a ≡ x → b ≡ x → a ≡ b
-one a b p q = p ∙ sym q
-
-pub unique : One
+pub unique : Unique
 unique x out a b p q = λ i. (
   one (a .0) (b .0) (p .told) (q .told) i,
   one (a .1) (b .1) (p .framed) (q .framed) i,

@@ -4,6 +4,7 @@ use mathlib.Core.Path.{_≡_}
 use mathlib.Core.List.{List}
 use Prim.Native.Nat.{ℕ}
 use Rattle.wire.specs.Store.{laid}
+use Rattle.wire.specs.Words.{One}
 use Rattle.order_run.specs.Feed.{Did, runOf, Going}
 use Rattle.order_run.specs.declared.Run.{Run}
 
@@ -15,6 +16,5 @@ pub record Shows (x : Did) (r : Run) (frame kept out out′ : List ℕ) : Type 0
   pub going : Going r
 
 -- "that no second answer satisfies it is shown": one run, one frame, one data buffer, one output
-abbrev pub One : Type 0
-One = (x : Did) (out : List ℕ) (a b : Run × List ℕ × List ℕ × List ℕ)
-    → Shows x (a .0) (a .1) (a .2) out (a .3) → Shows x (b .0) (b .1) (b .2) out (b .3) → a ≡ b
+abbrev pub Unique : Type 0
+Unique = (x : Did) (out : List ℕ) → One (λ (r : Run × List ℕ × List ℕ × List ℕ). Shows x (r .0) (r .1) (r .2) out (r .3))

@@ -1,9 +1,6 @@
 -- Each statement leaves one answer. Assumes nothing.
-use mathlib.Core.Path.{_≡_, sym, _∙_}
+use Rattle.wire.proofs.One.{one}
 use Rattle.order_run.specs.One.{Unique}
-
-one : {A : Type 0} {x : A} (a b : A) → a ≡ x → b ≡ x → a ≡ b
-one a b p q = p ∙ sym q
 
 pub unique : Unique
 unique = record {

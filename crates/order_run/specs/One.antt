@@ -1,13 +1,9 @@
 -- Uniqueness of the order program's functions on texts: "that no second answer satisfies it is shown". Assumes nothing.
-use mathlib.Core.Path.{_≡_}
 use mathlib.Core.List.{List}
 use Prim.Native.Nat.{ℕ}
+use Rattle.wire.specs.Words.{One}
 use Rattle.order_run.specs.Feed.{Did, Starts, Feeds}
 use Rattle.order_run.specs.declared.Fed.{Fed}
-
--- at most one answer satisfies the statement P
-abbrev pub One : {A : Type 0} → (A → Type 0) → Type 0
-One {A} P = (a b : A) → P a → P b → a ≡ b
 
 pub record Unique : Type 0 where
   pub starts : One Starts

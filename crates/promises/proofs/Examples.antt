@@ -1,6 +1,6 @@
 -- The examples hold: those of lower crates as they are proved there, and the desk's runs as Computed has them. Assumes nothing.
 use mathlib.Core.Path.{_≡_, refl, sym, ap, ap₂, _∙_}
-use mathlib.Core.List.{List, [], _∷_, _++_, map}
+use mathlib.Core.List.{List, [], _∷_, _++_, map, map-append}
 use Rattle.services.specs.Examples as frames
 use Rattle.judge.specs.Examples as replies
 use Rattle.reads.specs.Examples as reads
@@ -28,11 +28,6 @@ module _ {A : Type 0} (f : A → Shown) where
 
   shown-hold : (l : List (A × A)) → firsts l ≡ seconds l → firsts (map (shown f) l) ≡ seconds (map (shown f) l)
   shown-hold l h = firsts-shown l ∙ ap (map f) h ∙ sym (seconds-shown l)
-
-module _ {A B : Type 0} (f : A → B) where
-  map-append : (a b : List A) → map f (a ++ b) ≡ map f a ++ map f b
-  map-append [] b = refl
-  map-append (x ∷ a) b = ap {B = List B} (λ r. f x ∷ r) (map-append a b)
 
 -- a list that holds
 abbrev Held : Type 0

@@ -1,20 +1,17 @@
 -- Each shape leaves one answer. Assumes nothing.
-use mathlib.Core.Path.{_≡_, sym, ap, _∙_}
-use mathlib.Core.List.{List, [], _∷_}
-use Prim.Native.Nat.{ℕ, zero, suc}
+use mathlib.Core.Path.{sym, ap, _∙_}
+use mathlib.Core.List.{List, [], map}
+use Prim.Native.Nat.{ℕ}
+use lib.ListN.{getD}
+use Rattle.wire.proofs.One.{one}
 use Rattle.judge.specs.Answers.{plainOf}
 use Rattle.desk.specs.Stand.{Told}
 use Rattle.promises.specs.One.{Unique}
 use Rattle.promises.specs.Standing.{Deed}
 
-one : {A : Type 0} {x : A} (a b : A) → a ≡ x → b ≡ x → a ≡ b
-one a b p q = p ∙ sym q
-
 -- what was told of call n
 told : ℕ → List Deed → Told
-told n [] = (plainOf 0, [])
-told zero (x ∷ xs) = x .told
-told (suc n) (x ∷ xs) = told n xs
+told n xs = getD (map (λ (x : Deed). x .told) xs) n (plainOf 0, [])
 
 pub unique : Unique
 unfolding told

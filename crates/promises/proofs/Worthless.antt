@@ -2,7 +2,7 @@
 use mathlib.Core.Path.{_≡_, refl, sym, ap, _∙_}
 use mathlib.Core.Bool.{true, false, false≢true}
 use mathlib.Core.List.{List, [], _∷_}
-use Prim.Native.Nat.{ℕ, zero, suc}
+use Prim.Native.Nat.{ℕ}
 use native.Mathlib.Omega.{arith}
 use lib.ListN.{getD}
 use Rattle.wire.specs.Bytes.{hex}
@@ -26,32 +26,27 @@ use Rattle.promises.proofs.Computed.{runs-hold}
 
 -- ---- what the shipped desk tells, from the examples
 
-nth : {A : Type 0} → A → ℕ → List A → A
-nth a n [] = a
-nth a zero (x ∷ l) = x
-nth a (suc n) (x ∷ l) = nth a n l
-
 -- call j of run i
 told : ℕ → ℕ → List (List Told) → Told
-told i j l = nth entered j (nth [] i l)
+told i j l = getD (getD l i []) j entered
 
 answers-01 : toldBy deskStand first [] (enter 0 (upload 2)) .0 ≡ plainOf 0x01
-unfolding trace after told nth
+unfolding trace after told
 answers-01 = ap (λ (l : List (List Told)). told 1 0 l .0) runs-hold
 
 answers-02 : toldBy deskStand first (enter 0 (upload 2) ∷ []) (send 0 (blank 16)) .0 ≡ plainOf 0x02
-unfolding trace after told nth
+unfolding trace after told
 answers-02 = ap (λ (l : List (List Told)). told 1 1 l .0) runs-hold
 
 writes : toldBy deskStand first (enter 0 (upload 2) ∷ []) (send 0 (blank 16)) .1 ≡ hex 16 0x0a000000001300204018100100000000
-unfolding trace after told nth
+unfolding trace after told
 writes = ap (λ (l : List (List Told)). told 1 1 l .1) runs-hold
 
 abbrev begun : List Called
 begun = enter 0 (upload 3) ∷ send 0 (blank 16) ∷ receive 0 (segmentsFollow, blank 8) ∷ send 0 (blank 16) ∷ []
 
 stores : toldBy deskStand (passAt 6) begun (receive 0 (three, blank 8)) .1 ≡ hex 8 0xa1a2a3eeeeeeeeee
-unfolding trace after told nth
+unfolding trace after told
 stores = ap (λ (l : List (List Told)). told 2 4 l .1) runs-hold
 
 -- ---- and so whoever keeps the promise

@@ -1,10 +1,12 @@
 -- Uniqueness: "that no second answer satisfies it is shown". A statement of a public function has one of the shapes below, or, of what is
--- lent and exported, one of linked/specs/One. Each leaves one answer and one content of what is lent. `tools/statements --shapes` names
--- the shape of every public function and fails at one that has none of them. Assumes nothing.
+-- lent and exported, one of linked/specs/One, or, of the order program, one of order_run/specs/One or order_io/specs/Shown. Each leaves one
+-- answer and one content of what is lent. `tools/statements --shapes` names the shape of every public function and fails at one that has
+-- none of them. Assumes nothing.
 use mathlib.Core.Path.{_≡_}
 use mathlib.Core.Bool.{Bool}
 use mathlib.Core.List.{List}
 use Prim.Native.Nat.{ℕ}
+use Rattle.wire.specs.Words.{One}
 use Rattle.services.specs.Written.{Writes}
 use Rattle.services.specs.declared.Request.{Request}
 use Rattle.services.specs.declared.Wrote.{Wrote}
@@ -15,10 +17,6 @@ use Rattle.desk.specs.declared.Desk.{Desk}
 use Rattle.client.specs.Run.{Run}
 use Rattle.client.specs.declared.Seen.{Seen}
 use Rattle.promises.specs.Standing.{Called}
-
--- at most one answer satisfies the statement P
-abbrev pub One : {A : Type 0} → (A → Type 0) → Type 0
-One {A} P = (a b : A) → P a → P b → a ≡ b
 
 pub record Unique : Type 1 where
   -- `r ≡ x`, or the same of a lent buffer
