@@ -1,5 +1,6 @@
-# The commands of the README: `make test`, `make run` (`make run FILE=x` runs an order file of yours) and `make mutants`.
-.PHONY: test run mutants
+# The commands of the README: `make test`, `make run` (`make run FILE=x` runs an order file of yours), `make mutants` and
+# `make wireshark`.
+.PHONY: test run mutants wireshark
 
 test:
 	@tools/test
@@ -10,3 +11,6 @@ run:
 
 mutants:
 	@tools/mutants
+
+wireshark:
+	@tools/wireshark/run
