@@ -151,7 +151,7 @@ def replies():
         yield abort(0x2000, 5, code, service)
     for length, toggle, last in itertools.product((*range(16), 100), (0, 1), (0, 1)):
         yield segment(toggle, last, counting(length))
-    for length in (1, 6):
+    for length in range(1, 7):
         yield short_segment(1, 1, counting(length))
     for kind, length, incomplete in itertools.product(range(1, 6), (0, 2, 4, 100), (0, 1)):
         yield first_fragment(kind, counting(length), incomplete, 3 * incomplete)
