@@ -1,5 +1,4 @@
--- Laws of the record: the place of a seat, and what the helpers do to the record of a queue.
--- Assumes nothing.
+-- Laws of the record: the place of a seat, and the records that the changes make. Assumes nothing.
 use mathlib.Core.Path.{_≡_, refl, sym, ap, _∙_}
 use mathlib.Core.Bool.{Bool, true, false}
 use mathlib.Core.List.{List, [], _∷_, _++_, map, tail, append-assoc, map-append}
@@ -8,16 +7,32 @@ use native.Mathlib.Omega.{arith}
 use native.Mathlib.Nat.{not-suc-le-zero, le-of-suc-le-suc}
 use borrow.Author.Tests.{lt-ltb, le-ltb, eq-eqb, ne-eqb}
 use lib.Dec.{eqb, ltb, leb·suc-suc}
-use lib.ListN.{length, take, drop, set, getD, replicate, length-append, length-map, replicate-append-replicate}
-use lib.Seq.{set-at, append-snoc, take-at, drop-cons, drop-length, getD-take, length-take-le}
+use lib.ListN.{length, take, drop, set, getD, replicate, length-append, length-map, length-replicate, replicate-append-replicate}
+use lib.Seq.{set-at, set-append-left, append-snoc, take-at, drop-cons, drop-length, getD-take, length-take-le}
 use Rattle.wire.specs.Words.{pick, either}
 use Rattle.line.specs.Line.{Line, seated, vacate}
 use Rattle.line.proofs.Room.{line-room}
 use Rattle.transfer.specs.declared.Transfer.{Transfer}
 use Rattle.desk.specs.declared.record.Slot.{Slot}
 use Rattle.desk.specs.declared.Desk.{Desk}
-use Rattle.desk.specs.Record.{Queue, lined, pairOf, slotOf, blankOf, viewOf, deskOf, Good, placeIn, gone, held, cutAt, withHead, joinedBy}
-use Rattle.desk.proofs.Moved.{getD-map}
+use Rattle.desk.specs.Record.{Queue, lined, pairOf, slotOf, blankOf, viewOf, deskOf, Good, placeIn}
+use Rattle.desk.specs.Change.{moved}
+use Rattle.desk.proofs.Moved.{gone, length-moved, moved-front, moved-all, getD-map}
+
+-- ---- the records that changes make
+
+-- the record with other slots
+abbrev pub held : List Slot → ℕ → Desk → Desk
+held l n d = record { line = l; waiting = n; counter = d .counter }
+
+abbrev pub closedAt : Desk → ℕ → Desk
+closedAt d n = held (set (moved (d .line) n (d .waiting - 1)) (d .waiting - 1) blankOf) (d .waiting - 1) d
+
+abbrev pub withHead : Desk → ℕ → Transfer → Desk
+withHead d s t = held (set (d .line) 0 (slotOf (s, t))) (d .waiting) d
+
+abbrev pub joinedBy : Desk → ℕ → Transfer → Desk
+joinedBy d s t = held (set (d .line) (d .waiting) (slotOf (s, t))) (d .waiting + 1) d
 
 -- ---- the place of a seat in a line
 
@@ -84,12 +99,6 @@ module _ {A : Type 0} where
   length-gone zero (x ∷ l) h = omega arith
   length-gone (suc n) (x ∷ l) h = omega (arith, length-gone n l (le-of-suc-le-suc h))
 
-  gone-append : (n : ℕ) (l m : List A) → n < length l → gone n (l ++ m) ≡ gone n l ++ m
-  unfolding gone
-  gone-append n [] m h = absurd (not-suc-le-zero h)
-  gone-append zero (x ∷ l) m h = refl
-  gone-append (suc n) (x ∷ l) m h = ap {B = List A} (λ r. x ∷ r) (gone-append n l m (le-of-suc-le-suc h))
-
   gone-first : (l : List A) → gone 0 l ≡ tail l
   unfolding gone
   gone-first [] = refl
@@ -108,13 +117,19 @@ module _ {A : Type 0} where
       let q : m - n ≡ suc (m - (n + 1)) = omega arith in
       rw q (set-at l e (replicate (m - (n + 1)) e) x n w ∙ sym (append-snoc l x (replicate (m - (n + 1)) e)))
 
-  fill-cut : (l : List A) (k n m : ℕ) (e : A) → length l ≡ n → k < n → n ≤ m
-      → gone k (l ++ replicate (m - n) e) ++ (e ∷ []) ≡ gone k l ++ replicate (m - (n - 1)) e
-  fill-cut l k n m e w h g =
-      let q : m - (n - 1) ≡ m - n + 1 = omega arith in
-      rw (gone-append k l (replicate (m - n) e) (omega arith), append-assoc, q) (ap (λ (r : List A). gone k l ++ r) (replicate-append-replicate (m - n) 1 e))
+  fill-close : (l : List A) (k n m : ℕ) (e : A) → length l ≡ n → k < n → n ≤ m
+      → set (moved (l ++ replicate (m - n) e) k (n - 1)) (n - 1) e ≡ gone k l ++ replicate (m - (n - 1)) e
+  fill-close l k n m e w h g =
+      let r = replicate (m - n) e in
+      let q : m - (n - 1) ≡ 1 + (m - n) = omega arith in
+      let i : n - 1 < length l = omega arith in
+      ap (λ (x : List A). set x (n - 1) e) (moved-front l r k (n - 1) (omega arith) i)
+      ∙ set-append-left (moved l k (n - 1)) r (n - 1) e (rw (length-moved l k (n - 1)) i)
+      ∙ ap (λ (x : List A). x ++ r) (moved-all l k (n - 1) e (omega arith) (omega arith))
+      ∙ append-assoc (gone k l) (e ∷ []) r
+      ∙ rw q (ap (λ (x : List A). gone k l ++ x) (replicate-append-replicate 1 (m - n) e))
 
--- ---- the helpers, at the record of a queue
+-- ---- these records, at the record of a queue
 
 held-is : {l m : List Slot} {n o : ℕ} (d : Desk) → l ≡ m → n ≡ o → held l n d ≡ held m o d
 held-is d e f = rw (e, f)
@@ -129,13 +144,13 @@ join-desk q s t h =
     (rw (n, map-append) (fill-join (map slotOf l) (length l) 8 blankOf (slotOf p) (length-map l slotOf) h))
     (sym n)
 
-cut-desk : (q : Queue) (n : ℕ) → n < length (q .line) → length (q .line) ≤ 8 → cutAt (deskOf q) n ≡ deskOf (lined (gone n (q .line)) q)
+close-desk : (q : Queue) (n : ℕ) → n < length (q .line) → length (q .line) ≤ 8 → closedAt (deskOf q) n ≡ deskOf (lined (gone n (q .line)) q)
 unfolding deskOf
-cut-desk q n h g =
+close-desk q n h g =
     let l = q .line in
     let e : length (gone n l) ≡ length l - 1 = length-gone n l h in
     held-is (deskOf q)
-    (rw (e, ← gone-map slotOf n l) (fill-cut (map slotOf l) n (length l) 8 blankOf (length-map l slotOf) h g))
+    (rw (e, ← gone-map slotOf n l) (fill-close (map slotOf l) n (length l) 8 blankOf (length-map l slotOf) h g))
     (sym e)
 
 head-desk : (q : Queue) (l : Line Transfer) (p : ℕ × Transfer) (s : ℕ) (u : Transfer) → withHead (deskOf (lined (p ∷ l) q)) s u ≡ deskOf (lined ((s, u) ∷ l) q)
@@ -174,19 +189,29 @@ module _ (d : Desk) (g : Good d) where
   pub good-small : d .waiting ≤ 8
   good-small = omega (arith, good-length, g .sound .few)
 
+  pub good-long : length (d .line) ≡ 8
+  unfolding deskOf
+  good-long =
+      let l = map slotOf line in
+      let n : length l ≡ length line = length-map line slotOf in
+      let r : length (replicate (8 - length line) blankOf) ≡ 8 - length line = length-replicate (8 - length line) blankOf in
+      ap (λ (e : Desk). length (e .line)) (g .laid)
+      ∙ length-append l (replicate (8 - length line) blankOf)
+      ∙ omega (arith, n, r, good-length, good-small)
+
   pub good-room : (s : ℕ) (t : Transfer) → s < 8 → seated s line ≡ false → length line < 8
   good-room s t h e = line-room s t line (g .sound) h e
 
   pub good-join : (s : ℕ) (t : Transfer) → length line < 8 → joinedBy d s t ≡ deskOf (lined (line ++ ((s, t) ∷ [])) (viewOf d))
   good-join s t h = ap (λ (e : Desk). joinedBy e s t) (g .laid) ∙ join-desk (viewOf d) s t h
 
-  pub good-cut : (n : ℕ) → n < d .waiting → cutAt d n ≡ deskOf (lined (gone n line) (viewOf d))
-  good-cut n h =
-      ap (λ (e : Desk). cutAt e n) (g .laid) ∙
-      cut-desk (viewOf d) n (omega (arith, good-length)) (omega (arith, good-length, good-small))
+  pub good-close : (n : ℕ) → n < d .waiting → closedAt d n ≡ deskOf (lined (gone n line) (viewOf d))
+  good-close n h =
+      ap (λ (e : Desk). closedAt e n) (g .laid) ∙
+      close-desk (viewOf d) n (omega (arith, good-length)) (omega (arith, good-length, good-small))
 
-  pub good-end : 0 < d .waiting → cutAt d 0 ≡ deskOf (lined (tail line) (viewOf d))
-  good-end h = good-cut 0 h ∙ ap (λ (l : Line Transfer). deskOf (lined l (viewOf d))) (gone-first line)
+  pub good-end : 0 < d .waiting → closedAt d 0 ≡ deskOf (lined (tail line) (viewOf d))
+  good-end h = good-close 0 h ∙ ap (λ (l : Line Transfer). deskOf (lined l (viewOf d))) (gone-first line)
 
   pub good-front : (z : Slot) → 0 < d .waiting → line ≡ pairOf (getD (d .line) 0 z) ∷ tail line
   good-front z h = front line (pairOf z) (omega (arith, good-length)) ∙ ap {B = Line Transfer} (λ (q : ℕ × Transfer). q ∷ tail line) (view-at d 0 z h)

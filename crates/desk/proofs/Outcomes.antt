@@ -1,18 +1,21 @@
--- Each call that is not refused: what the private functions make of a good record is the record of the step. Assumes nothing.
+-- Each call that is not refused: what it changes makes the record of the step. Assumes nothing.
 use mathlib.Core.Path.{_≡_, refl, sym, ap, _∙_}
 use mathlib.Core.Bool.{Bool, true, false, not}
 use mathlib.Core.List.{List, _++_, tail}
 use mathlib.Core.Option.{Option, none, some}
 use Prim.Native.Nat.{ℕ, _<_}
 use native.Mathlib.Omega.{arith}
+use borrow.Author.Tests.{eq-eqb}
 use lib.Dec.{ltb}
 use lib.ListN.{length}
 use Rattle.wire.specs.Words.{pick}
 use Rattle.line.specs.Machine.{Ruling, refuse, accept, andThen}
 use Rattle.line.specs.Line.{Line, seated, head, place}
 use Rattle.line.specs.Desk.{following, enter, send, receive, leave, Outcome, refused, sent, received, sentBy, receivedBy, judge, settled, step}
+use Rattle.line.specs.Transfers.{seatOf}
 use Rattle.line.proofs.Moves.{head-accept}
 use Rattle.line.proofs.Steps.{enter-01, leave-03}
+use Rattle.judge.specs.Answers.{plainOf}
 use Rattle.judge.specs.declared.Answer.{Answer}
 use Rattle.transfer.specs.declared.Order.{Order}
 use Rattle.transfer.specs.declared.Transfer.{Transfer}
@@ -20,31 +23,44 @@ use Rattle.transfer.specs.Due.{requestDue}
 use Rattle.transfer.specs.Judgement.{nextWith}
 use Rattle.transfer.specs.Coe.{coeMachine, Gives, beginsWith, sendsWith, sendsIfDue, receivesWith, receivesIfDue}
 use Rattle.desk.specs.declared.Desk.{Desk}
-use Rattle.desk.specs.declared.Called.{Called}
-use Rattle.desk.specs.Record.{Queue, lined, viewOf, deskOf, Good, placeIn, cutAt, withHead, joinedBy, countedAt, movedOn}
-use Rattle.desk.specs.Calls.{answerFor, lentAfter, calledOf, numberedOf}
-use Rattle.desk.proofs.Held.{good-length, good-join, good-cut, good-end, good-head, gone-place}
+use Rattle.desk.specs.Record.{Queue, lined, viewOf, deskOf, Good, placeIn}
+use Rattle.desk.specs.Calls.{answerFor, lentAfter, calledOf}
+use Rattle.desk.specs.Change.{Changes, joinsBy, headsBy, closesAt, movesOn}
+use Rattle.desk.proofs.Held.{good-length, good-join, good-close, good-end, good-head, gone-place}
+use Rattle.desk.proofs.Changed.{calledAt, countedAt, joins-is, sends-is, goes-on, leaves-is, is-over}
+
+abbrev outcome : Queue × Outcome coeMachine → Outcome coeMachine
+outcome r = r .1
 
 module _ (d : Desk) (g : Good d) (s : ℕ) where
   abbrev q : Queue
   q = viewOf d
 
   pub enters : (o : Order) (t : Transfer) → ltb 7 s ≡ false → seated s (q .line) ≡ false → length (q .line) < 8 → beginsWith o ≡ accept t
-      → numberedOf 0x01 (joinedBy d s t) ≡ calledOf (step coeMachine q (enter s o))
+      → Changes d (enter s o) (joinsBy d s t)
   unfolding answerFor
-  enters o t h f r e = ap (numberedOf 0x01) (good-join d g s t r) ∙ ap calledOf (sym (enter-01 coeMachine q s o t h f e))
+  enters o t h f r e =
+      let w = enter-01 coeMachine q s o t h f e in
+      joins-is d g (enter s o) s t (omega (arith, good-length d g)) (ap outcome w)
+      (ap (calledAt (plainOf 0x01)) (good-join d g s t r) ∙ ap calledOf (sym w))
 
   pub leaves : ltb 7 s ≡ false → seated s (q .line) ≡ true → placeIn s (q .line) < d .waiting
-      → numberedOf 0x03 (cutAt d (placeIn s (q .line))) ≡ calledOf (step coeMachine q (leave s))
-  unfolding answerFor
+      → Changes d (leave s) (closesAt (plainOf 0x03) d (placeIn s (q .line)))
+  unfolding answerFor seatOf
   leaves h f r =
-      ap (numberedOf 0x03) (good-cut d g (placeIn s (q .line)) r ∙ ap (λ (l : Line Transfer). deskOf (lined l q)) (gone-place s (q .line)))
-      ∙ ap calledOf (sym (leave-03 coeMachine q s h f))
+      let n = placeIn s (q .line) in
+      let e = good-close d g n r ∙ ap (λ (l : Line Transfer). deskOf (lined l q)) (gone-place s (q .line)) in
+      let w = leave-03 coeMachine q s h f in
+      leaves-is d g (leave s) (plainOf 0x03) n refl r (ap outcome w) (ap (calledAt (plainOf 0x03)) e ∙ ap calledOf (sym w))
 
   -- send and receive, once the head's transfer is t: the transfer's own ruling, 14 in it, is the step's
   module _ (t : Transfer) (h : head s (q .line) ≡ accept t) where
     pub waits : 0 < d .waiting
     waits = omega (arith, good-length d g, ap length (head-accept s (q .line) h .1))
+
+    front : placeIn s (q .line) ≡ 0
+    unfolding placeIn
+    front = rw (head-accept s (q .line) h .1, eq-eqb s s refl) refl
 
     module _ (b : List ℕ) where
       abbrev onward : List ℕ × Transfer → Ruling (Queue × Outcome coeMachine)
@@ -73,11 +89,12 @@ module _ (d : Desk) (g : Good d) (s : ℕ) where
         unfolding settled andThen
         sent-step = send-by (accept (f, u)) e
 
-        pub sends : numberedOf 0x02 (countedAt (following (d .counter)) (withHead d s u)) ≡ calledOf (step coeMachine q (send s b))
+        pub sends : Changes d (send s b) (headsBy (plainOf 0x02) d s u (following (d .counter)))
         unfolding answerFor deskOf viewOf
         sends =
-            ap (λ (x : Desk). numberedOf 0x02 (countedAt (following (d .counter)) x)) (good-head d g s u waits)
-            ∙ ap calledOf (sym sent-step)
+            let c = following (d .counter) in
+            sends-is d g (send s b) s u (plainOf 0x02) c f (ap outcome sent-step)
+            (ap (λ (x : Desk). calledAt (plainOf 0x02) (countedAt c x)) (good-head d g s u waits) ∙ ap calledOf (sym sent-step))
 
         pub frame-sent : f ≡ lentAfter b (step coeMachine q (send s b) .1)
         unfolding lentAfter
@@ -114,13 +131,12 @@ module _ (d : Desk) (g : Good d) (s : ℕ) where
         unfolding lentAfter
         data-received = ap (λ (z : Queue × Outcome coeMachine). lentAfter c (z .1)) (sym received-step)
 
-        abbrev answered : Desk → Called
-        answered x = record { answer = a; desk = x }
-
-        pub moves : answered (movedOn d s (nextWith o)) ≡ calledOf (step coeMachine q (receive s (p, c)))
-        unfolding answerFor place
-        moves = ap answered (go o) ∙ ap calledOf (sym received-step)
+        pub moves : Changes d (receive s (p, c)) (movesOn a d s (nextWith o))
+        unfolding answerFor place seatOf
+        moves = go o received-step
           where
-            go : (o : Option Transfer) → movedOn d s (nextWith o) ≡ deskOf (lined (place s o ++ tail (q .line)) q)
-            go none = good-end d g waits
-            go (some u) = good-head d g s u waits
+            go : (o : Option Transfer) → step coeMachine q (receive s (p, c)) ≡ (lined (place s o ++ tail (q .line)) q, received (a, f))
+                → Changes d (receive s (p, c)) (movesOn a d s (nextWith o))
+            go none e = is-over d g (receive s (p, c)) a 0 (sym front) waits (a, f) (ap outcome e) (ap (calledAt a) (good-end d g waits) ∙ ap calledOf (sym e))
+            go (some u) e =
+                goes-on d g (receive s (p, c)) s u a (d .counter) (a, f) (ap outcome e) (ap (calledAt a) (good-head d g s u waits) ∙ ap calledOf (sym e))

@@ -7,6 +7,7 @@ use Prim.Native.Nat.{ℕ}
 use native.Mathlib.Omega.{arith}
 use Rattle.line.specs.Machine.{Ruling, refuse, accept}
 use Rattle.line.specs.Desk.{Outcome, refused, Call, step}
+use Rattle.judge.specs.Answers.{plainOf}
 use Rattle.judge.specs.declared.Answer.{Answer}
 use Rattle.transfer.specs.declared.Transfer.{Transfer}
 use Rattle.transfer.specs.declared.Next.{Next}
@@ -18,7 +19,9 @@ use Rattle.transfer.specs.Coe.{coeMachine, Gives, startOf, sendingOf, frameOf, 
 use Rattle.desk.specs.declared.Desk.{Desk}
 use Rattle.desk.specs.declared.record.Turn.the-variants.{Head, Refused}
 use Rattle.desk.specs.Record.{Queue, viewOf, Good}
-use Rattle.desk.specs.Calls.{answerFor, lentAfter, calledOf, numberedOf, turnOf}
+use Rattle.desk.specs.Calls.{answerFor, lentAfter, calledOf, turnOf}
+use Rattle.desk.specs.Change.{Changes, staysAt}
+use Rattle.desk.proofs.Changed.{calledAt, stays-is}
 
 -- ---- from an answer back to its ruling
 
@@ -69,9 +72,9 @@ step-judged (accept r) b a n e =
 -- ---- a refusal
 
 module _ (d : Desk) (g : Good d) (k : Call coeMachine) (n : ℕ) (e : step coeMachine (viewOf d) k ≡ (viewOf d, refused n)) where
-  pub refuses : numberedOf n d ≡ calledOf (step coeMachine (viewOf d) k)
+  pub refuses : Changes d k (staysAt n)
   unfolding answerFor
-  refuses = ap (numberedOf n) (g .laid) ∙ ap calledOf (sym e)
+  refuses = stays-is d g k n (ap (λ (r : Queue × Outcome coeMachine). r .1) e) (ap (calledAt (plainOf n)) (g .laid) ∙ ap calledOf (sym e))
 
   pub lent-same : (b : List ℕ) → b ≡ lentAfter b (step coeMachine (viewOf d) k .1)
   unfolding lentAfter

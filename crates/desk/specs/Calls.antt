@@ -52,9 +52,6 @@ pub record GivesLent (d : Desk) (k : Call coeMachine) (r : Called) (before after
 
 -- ---- what the private functions do
 
-abbrev pub numberedOf : ℕ → Desk → Called
-numberedOf n d = record { answer = plainOf n; desk = d }
-
 abbrev pub turnOf : Ruling Transfer → Turn
 turnOf (refuse n) = Refused n
 turnOf (accept t) = Head t

@@ -2,17 +2,15 @@
 use mathlib.Core.Path.{_≡_}
 use mathlib.Core.Bool.{true}
 use mathlib.Core.List.{List, [], _∷_, _++_, map}
-use Prim.Native.Nat.{ℕ, zero, suc, _+_, _-_}
+use Prim.Native.Nat.{ℕ, zero, suc, _-_}
 use lib.Dec.{eqb, ltb}
-use lib.ListN.{length, take, set, replicate}
+use lib.ListN.{length, take, replicate}
 use Rattle.wire.specs.Words.{pick, within}
 use Rattle.line.specs.Line.{Line}
 use Rattle.line.specs.Desk.{passAt, freshAt}
 use Rattle.line.specs.Desk as line
 use Rattle.line.specs.Sound.{Sound}
 use Rattle.transfer.specs.declared.Transfer.{Transfer}
-use Rattle.transfer.specs.declared.Next.{Next}
-use Rattle.transfer.specs.declared.Next.the-variants.{Over, On}
 use Rattle.transfer.specs.Coe.{coeMachine}
 use Rattle.desk.specs.declared.record.Slot.{Slot}
 use Rattle.desk.specs.declared.Desk.{Desk}
@@ -77,29 +75,3 @@ emptyAt c = deskOf (freshAt coeMachine (passAt c))
 unfoldable pub placeIn : ℕ → Line Transfer → ℕ
 placeIn s [] = 0
 placeIn s (q ∷ l) = pick (eqb s (q .0)) 0 (suc (placeIn s l))
-
--- a list without what stands at a place
-unfoldable pub gone : {A : Type 0} → ℕ → List A → List A
-gone n [] = []
-gone zero (x ∷ l) = l
-gone (suc n) (x ∷ l) = x ∷ gone n l
-
--- the record with other slots
-abbrev pub held : List Slot → ℕ → Desk → Desk
-held l n d = record { line = l; waiting = n; counter = d .counter }
-
-abbrev pub cutAt : Desk → ℕ → Desk
-cutAt d n = held (gone n (d .line) ++ (blankOf ∷ [])) (d .waiting - 1) d
-
-abbrev pub withHead : Desk → ℕ → Transfer → Desk
-withHead d s t = held (set (d .line) 0 (slotOf (s, t))) (d .waiting) d
-
-abbrev pub joinedBy : Desk → ℕ → Transfer → Desk
-joinedBy d s t = held (set (d .line) (d .waiting) (slotOf (s, t))) (d .waiting + 1) d
-
-abbrev pub countedAt : ℕ → Desk → Desk
-countedAt k d = record { line = d .line; waiting = d .waiting; counter = k }
-
-abbrev pub movedOn : Desk → ℕ → Next → Desk
-movedOn d s Over = cutAt d 0
-movedOn d s (On t) = withHead d s t

@@ -1,14 +1,12 @@
-// What the calls do to the record: find a seat in the line, take a slot out, put one in.
-use crate::Called;
+// The record's slots: what an empty one holds, and whose slot is whose.
 use crate::Desk;
-use transfer::Next;
 use transfer::Order;
 use transfer::Transfer;
 ghost use mathlib.Core.Path.{_≡_};
-ghost use Prim.Native.Nat.{_<_, _≤_};
+ghost use Prim.Native.Nat.{_≤_};
 ghost use Rattle.line.specs.Line.{head};
-ghost use Rattle.desk.specs.Record.{Good, viewOf, emptyAt, blankOf, placeIn, cutAt, withHead, joinedBy, countedAt, movedOn};
-ghost use Rattle.desk.specs.Calls.{numberedOf, turnOf, refusalOf};
+ghost use Rattle.desk.specs.Record.{Good, viewOf, emptyAt, blankOf, placeIn};
+ghost use Rattle.desk.specs.Calls.{turnOf, refusalOf};
 
 // A seat and its transfer.
 #[repr(C)]
@@ -32,14 +30,7 @@ pub(crate) fn refusal_of(whose: Turn) -> u8
     }
 }
 
-pub(crate) fn numbered(number: u8, desk: Desk) -> Called
-    ensures { λ r. ⌜ r ≡ numberedOf number desk ⌝ }
-{
-    let answer = judge::plain(number);
-    Called { answer, desk }
-}
-
-fn blank() -> Slot
+pub(crate) fn blank() -> Slot
     ensures { λ r. ⌜ r ≡ blankOf ⌝ }
 {
     let order = Order {
@@ -90,61 +81,6 @@ pub(crate) fn place(desk: Desk, seat: u8) -> usize
         i += 1;
     }
     i
-}
-
-// Without what stands at a place: the slots behind it move up, and a blank comes last.
-pub(crate) fn cut(desk: Desk, at: usize) -> Desk
-    requires { ⌜ (at < 8) × (0 < desk .waiting) ⌝ }
-    ensures { λ r. ⌜ r ≡ cutAt desk at ⌝ }
-{
-    let mut e = desk;
-    let mut i = at;
-    while i < 7 {
-        let t = e.line[i + 1];
-        e.line[i] = t;
-        i += 1;
-    }
-    e.line[7] = blank();
-    e.waiting = e.waiting - 1;
-    e
-}
-
-pub(crate) fn with_head(desk: Desk, seat: u8, transfer: Transfer) -> Desk
-    ensures { λ r. ⌜ r ≡ withHead desk seat transfer ⌝ }
-{
-    let mut e = desk;
-    e.line[0] = Slot { seat, transfer };
-    e
-}
-
-pub(crate) fn joined(desk: Desk, seat: u8, transfer: Transfer) -> Desk
-    requires { ⌜ desk .waiting < 8 ⌝ }
-    ensures { λ r. ⌜ r ≡ joinedBy desk seat transfer ⌝ }
-{
-    let mut e = desk;
-    let n = e.waiting;
-    e.line[n] = Slot { seat, transfer };
-    e.waiting = n + 1;
-    e
-}
-
-pub(crate) fn counted(desk: Desk, counter: u8) -> Desk
-    ensures { λ r. ⌜ r ≡ countedAt counter desk ⌝ }
-{
-    let mut e = desk;
-    e.counter = counter;
-    e
-}
-
-// The head stays while its transfer goes on, and its seat is free when it is over.
-pub(crate) fn moved_on(desk: Desk, seat: u8, next: Next) -> Desk
-    requires { ⌜ 0 < desk .waiting ⌝ }
-    ensures { λ r. ⌜ r ≡ movedOn desk seat next ⌝ }
-{
-    match next {
-        Next::Over => cut(desk, 0),
-        Next::On(t) => with_head(desk, seat, t),
-    }
 }
 
 // 10, 12, 13.

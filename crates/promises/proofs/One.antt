@@ -22,6 +22,8 @@ unique = record {
   fresh = λ c a b p q. one a b (p .empty) (q .empty);
   enter-leave = λ d k a b p q. one a b (p .told) (q .told);
   send-receive = λ d k s a b p q. λ i. (one (a .0) (b .0) (p .told) (q .told) i, one (a .1) (b .1) (p .lent) (q .lent) i);
+  changes = λ d k a b p q. one a b (p .told) (q .told);
+  changes-lent = λ d k s a b p q. λ i. (one (a .0) (b .0) (p .changes .told) (q .changes .told) i, one (a .1) (b .1) (p .lent) (q .lent) i);
   run = λ s o f r d a b p q.
       let same = sym p ∙ q in
       λ i. (
