@@ -45,7 +45,8 @@ use Rattle.desk.proofs.Desk.fresh as core
 use Rattle.desk.proofs.Desk.fresh.Symbol as core-def
 use Rattle.desk.proofs.Desk.fresh.Symbol.{name as #core}
 use Rattle.desk.proofs.Desk.fresh.Met as core-thm
-use Rattle.lent.proofs.Lent.{DeskIs, desk-typed, desk-opens, desk-closes}
+use Rattle.lent.proofs.Typed.{DeskIs}
+use Rattle.lent.proofs.Lent.{desk-typed, desk-opens, desk-closes}
 use Rattle.lent.proofs.fresh.Key.{name as #self}
 use Rattle.lent.proofs.fresh as f
 use Rattle.lent.proofs.fresh.Statement as stated
