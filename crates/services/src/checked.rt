@@ -1,12 +1,15 @@
-// The writers as a host calls them: everything that is handed in is judged, 15 before 16.
+// The writers as a host calls them: everything that is handed in is judged, 15 before 16. Each writer packs its own kind, without a
+// Request, which the compiler would put into memory and take apart again.
 use crate::Request;
 use crate::Wrote;
+use crate::packing;
+use crate::put;
 use mailbox::headers::SubIndex;
 ghost use mathlib.Core.Path.{_≡_};
 ghost use mathlib.Core.Bool.{true};
 ghost use lib.Dec.{leb, eqb};
 ghost use lib.ListN.{length};
-ghost use Rattle.wire.specs.Words.{both};
+ghost use Rattle.wire.specs.Words.{both, within};
 ghost use Rattle.wire.specs.Bytes.{longAt};
 ghost use Rattle.services.specs.Written.{countable, askable, checkedAnswer, checkedFrame, isFlag, accessOf, Writes};
 
@@ -14,6 +17,20 @@ fn counts(counter: u8) -> bool
     ensures { λ r. ⌜ r ≡ countable counter ⌝ }
 {
     1 <= counter && counter <= 7
+}
+
+// A download's data are one to four bytes.
+fn carries(len: u8) -> bool
+    ensures { λ r. ⌜ r ≡ within 1 4 len ⌝ }
+{
+    1 <= len && len <= 4
+}
+
+// List kinds are 1 to 5; 0 asks for the quantities.
+fn lists(kind: u16) -> bool
+    ensures { λ r. ⌜ r ≡ leb kind 5 ⌝ }
+{
+    kind <= 5
 }
 
 fn asks(request: Request) -> bool
@@ -29,9 +46,9 @@ fn asks(request: Request) -> bool
             access: _,
             value: _,
             len,
-        } => 1 <= len && len <= 4,
+        } => carries(len),
         Request::Segment { toggle: _ } => true,
-        Request::Information { kind } => kind <= 5,
+        Request::Information { kind } => lists(kind),
     }
 }
 
@@ -61,8 +78,10 @@ pub fn upload_frame(counter: u8, index: u16, sub_index: u8, complete: u8, frame:
     ensures { λ r. ⌜ Writes (isFlag complete) counter (Request.Upload index (accessOf «sub_index» complete)) (now (frame .entry)) r (now (frame .exit)) ⌝ }
 {
     if complete <= 1 {
-        let access = access_of(sub_index, complete);
-        return write_request(counter, Request::Upload { index, access }, frame);
+        if counts(counter) {
+            let access = access_of(sub_index, complete);
+            return put(packing::upload(counter, index, access), frame);
+        }
     }
     Wrote::Refused(0x15)
 }
@@ -80,19 +99,14 @@ pub fn download_frame(
 {
     if complete <= 1 {
         if bytes.len() <= 4 {
-            let access = access_of(sub_index, complete);
-            let value = wire::long_at(bytes, 0);
             let len = bytes.len() as u8;
-            return write_request(
-                counter,
-                Request::Download {
-                    index,
-                    access,
-                    value,
-                    len,
-                },
-                frame,
-            );
+            if counts(counter) {
+                if carries(len) {
+                    let access = access_of(sub_index, complete);
+                    let value = wire::long_at(bytes, 0);
+                    return put(packing::download(counter, index, access, value, len), frame);
+                }
+            }
         }
     }
     Wrote::Refused(0x15)
@@ -103,13 +117,9 @@ pub fn segment_frame(counter: u8, toggle: u8, frame: &mut [u8]) -> Wrote
     ensures { λ r. ⌜ Writes (isFlag toggle) counter (Request.Segment (eqb toggle 1)) (now (frame .entry)) r (now (frame .exit)) ⌝ }
 {
     if toggle <= 1 {
-        return write_request(
-            counter,
-            Request::Segment {
-                toggle: toggle == 1,
-            },
-            frame,
-        );
+        if counts(counter) {
+            return put(packing::upload_segment(counter, toggle == 1), frame);
+        }
     }
     Wrote::Refused(0x15)
 }
@@ -118,5 +128,10 @@ pub fn segment_frame(counter: u8, toggle: u8, frame: &mut [u8]) -> Wrote
 pub fn list_frame(counter: u8, kind: u16, frame: &mut [u8]) -> Wrote
     ensures { λ r. ⌜ Writes true counter (Request.Information kind) (now (frame .entry)) r (now (frame .exit)) ⌝ }
 {
-    write_request(counter, Request::Information { kind }, frame)
+    if counts(counter) {
+        if lists(kind) {
+            return put(packing::object_description_list(counter, kind), frame);
+        }
+    }
+    Wrote::Refused(0x15)
 }

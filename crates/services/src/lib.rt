@@ -53,9 +53,9 @@ pub fn pack(counter: u8, request: Request) -> [u8; 16]
     }
 }
 
-// Puts the request at the front of the frame buffer and zeros behind it, or refuses a buffer of another length.
-pub fn write_request(counter: u8, request: Request, frame: &mut [u8]) -> Wrote
-    ensures { λ r. ⌜ (r ≡ wroteOf (length (now (frame .entry)))) × (now (frame .exit) ≡ frameWith (packedOf counter request) (now (frame .entry))) ⌝ }
+// Puts sixteen bytes at the front of the frame buffer and zeros behind them, or refuses a buffer of another length.
+fn put(bytes: [u8; 16], frame: &mut [u8]) -> Wrote
+    ensures { λ r. ⌜ (r ≡ wroteOf (length (now (frame .entry)))) × (now (frame .exit) ≡ frameWith bytes (now (frame .entry))) ⌝ }
 {
     if frame.len() < 16 {
         return Wrote::Refused(0x16);
@@ -63,9 +63,15 @@ pub fn write_request(counter: u8, request: Request, frame: &mut [u8]) -> Wrote
     if 1486 < frame.len() {
         return Wrote::Refused(0x16);
     }
-    let bytes = pack(counter, request);
     wire::put_front(frame, &bytes);
     Wrote::Frame
+}
+
+// Puts the request at the front of the frame buffer and zeros behind it, or refuses a buffer of another length.
+pub fn write_request(counter: u8, request: Request, frame: &mut [u8]) -> Wrote
+    ensures { λ r. ⌜ (r ≡ wroteOf (length (now (frame .entry)))) × (now (frame .exit) ≡ frameWith (packedOf counter request) (now (frame .entry))) ⌝ }
+{
+    put(pack(counter, request), frame)
 }
 
 fn names(index: u16, access: SubIndex, received_index: u16, received_subindex: u8) -> bool
