@@ -64,6 +64,10 @@ fn room(size: usize, from: usize, len: usize, n: usize, at: usize) -> usize
     least(least(len, minus(size, from)), minus(n, at))
 }
 
+// More bytes than a reply has: its chunk is one block.
+const BLOCK: usize = 2048;
+
+// Plain loops, here and in zero_from: the compiler makes a memcpy and a memset of them, which a call for each byte would prevent.
 fn copy(s: &[u8], from: usize, d: &mut [u8], at: usize, k: usize)
     requires { ⌜ from + k ≤ length (now s) ⌝ }
     requires { ⌜ at + k ≤ length (now d) ⌝ }
@@ -76,17 +80,49 @@ fn copy(s: &[u8], from: usize, d: &mut [u8], at: usize, k: usize)
     }
 }
 
+// The contract gives the length alone: the prover would write the zeros out.
+fn space() -> [u8; BLOCK]
+    ensures { λ r. ⌜ 2048 ≡ length r ⌝ }
+{
+    [0; BLOCK]
+}
+
+// Through an array of its own, which overlaps neither slice: the compiler makes one memmove of both copies and drops the array. Between
+// two slices, which might overlap for all it is told, it keeps a loop.
+fn copy_block(s: &[u8], from: usize, d: &mut [u8], at: usize, n: usize)
+    requires { ⌜ from + n ≤ length (now s) ⌝ }
+    requires { ⌜ at + n ≤ length (now d) ⌝ }
+    requires { ⌜ n ≤ 2048 ⌝ }
+    ensures { λ _. ⌜ now (d .exit) ≡ paste (now (d .entry)) at (drop from (now (s .entry))) n ⌝ }
+{
+    let mut block = space();
+    copy(s, from, &mut block, 0, n);
+    copy(&block, 0, d, at, n);
+}
+
+fn copy_blocks(s: &[u8], from: usize, d: &mut [u8], at: usize, k: usize)
+    requires { ⌜ from + k ≤ length (now s) ⌝ }
+    requires { ⌜ at + k ≤ length (now d) ⌝ }
+    ensures { λ _. ⌜ now (d .exit) ≡ paste (now (d .entry)) at (drop from (now (s .entry))) k ⌝ }
+{
+    let mut i = 0;
+    while i < k {
+        let n = least(k - i, BLOCK);
+        copy_block(s, from + i, d, at + i, n);
+        i += n;
+    }
+}
+
 // Lays len bytes of s from a place over d from another, as far as they are there and have room.
 pub fn store_chunk(s: &[u8], from: usize, len: usize, d: &mut [u8], at: usize)
     ensures { λ _. ⌜ now (d .exit) ≡ laid (now (d .entry)) at (part (now (s .entry)) from len) ⌝ }
 {
     let k = room(s.len(), from, len, d.len(), at);
     if 0 < k {
-        copy(s, from, d, at, k);
+        copy_blocks(s, from, d, at, k);
     }
 }
 
-// Plain loops, here and in copy: the compiler makes a memset and a memcpy of them, which a call for each byte would prevent.
 fn zero_from(frame: &mut [u8], from: usize)
     ensures { λ _. ⌜ now (frame .exit) ≡ zeroedFrom from (now (frame .entry)) ⌝ }
 {
