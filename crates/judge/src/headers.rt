@@ -1,5 +1,5 @@
 // Rule 1: the headers of a reply, each kind's together; and rule 4, whether they are those of the transfer that was asked.
-use crate::places::SEGMENT_LEAST;
+use crate::places::SDO_LEAST;
 use mailbox::MailboxHeader;
 use mailbox::MailboxHeaderRead;
 use mailbox::headers::CoeHeader;
@@ -29,6 +29,9 @@ pub enum HeadersRead {
 pub(crate) fn read_headers(s: &[u8]) -> HeadersRead
     ensures { λ r. ⌜ r ≡ readHeaders (now (s .entry)) ⌝ }
 {
+    if s.len() < SDO_LEAST {
+        return HeadersRead::Undecodable;
+    }
     let MailboxHeaderRead::Header(mailbox) = MailboxHeader::unpack(s) else {
         return HeadersRead::Undecodable;
     };
@@ -61,7 +64,7 @@ pub enum SegmentHeadersRead {
 pub(crate) fn read_segment_headers(s: &[u8]) -> SegmentHeadersRead
     ensures { λ r. ⌜ r ≡ readSegmentHeaders (now (s .entry)) ⌝ }
 {
-    if s.len() < SEGMENT_LEAST {
+    if s.len() < SDO_LEAST {
         return SegmentHeadersRead::Undecodable;
     }
     let MailboxHeaderRead::Header(mailbox) = MailboxHeader::unpack(s) else {

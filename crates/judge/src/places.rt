@@ -4,6 +4,8 @@ pub(crate) const INDEX: usize = 9;
 
 pub(crate) const SUB_INDEX: usize = 11;
 
+pub(crate) const SDO_LEAST: usize = 12;
+
 pub(crate) const EMERGENCY_LEAST: usize = 20;
 
 pub(crate) const EMERGENCY_CODE: usize = 12;
@@ -23,8 +25,6 @@ pub(crate) const NORMAL_LEAST: usize = 16;
 pub(crate) const COMPLETE_SIZE: usize = 12;
 
 pub(crate) const NORMAL_AT: u8 = 16;
-
-pub(crate) const SEGMENT_LEAST: usize = 12;
 
 pub(crate) const SEGMENT_AT: u8 = 12;
 

@@ -13,6 +13,7 @@ use crate::places::EXPEDITED_AT;
 use crate::places::NORMAL_AT;
 use crate::places::NORMAL_LEAST;
 ghost use mathlib.Core.Path.{_≡_};
+ghost use Prim.Native.Nat.{_≤_};
 ghost use Rattle.judge.specs.Upload.{expeditedOf, wholeOf, normalOf, uploadOf, judgeUpload};
 
 fn expedited(size: usize, unused: u8) -> Verdict
@@ -28,11 +29,12 @@ fn expedited(size: usize, unused: u8) -> Verdict
     }
 }
 
-// A normal upload whose data are all in this reply.
+// A normal upload whose data are all in this reply, which reaches to them: so an empty payload is there without a test of its own.
 fn whole(size: usize, len: u16) -> Verdict
+    requires { ⌜ 16 ≤ size ⌝ }
     ensures { λ r. ⌜ r ≡ wholeOf size len ⌝ }
 {
-    if lacks(size, NORMAL_AT, len) {
+    if size < (NORMAL_AT as usize) + (len as usize) {
         return Verdict::Refused(0x25);
     }
     Verdict::Done {

@@ -50,6 +50,6 @@ normal-spec =
     returns-2
     (λ c κs. tt)
     (λ c. search needs)
-    (λ c κs. tt)
+    (λ c κs. search needs)
     returns-3
     returns-4)
