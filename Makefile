@@ -1,5 +1,6 @@
-# The commands of the README: `make test`, `make run` (`make run FILE=x` runs an order file of yours) and `make mutants`.
-.PHONY: test run mutants
+# The commands of the README: `make test`, `make run` (`make run FILE=x` runs an order file of yours), `make mutants`, `make differential`
+# (CASES=, ORDERS= and SEED= choose how many cases and order files, and which), `make wrong-rules` and `make stored`.
+.PHONY: test run mutants differential wrong-rules stored
 
 test:
 	@tools/test
@@ -10,3 +11,12 @@ run:
 
 mutants:
 	@tools/mutants
+
+differential:
+	@tools/differential $(if $(CASES),--cases $(CASES)) $(if $(ORDERS),--orders $(ORDERS)) $(if $(SEED),--seed $(SEED))
+
+wrong-rules:
+	@tools/wrong-rules
+
+stored:
+	@tools/stored
