@@ -3,6 +3,7 @@ use crate::differences::{explain, explain_frame, Listed};
 use crate::frames::Frame;
 use crate::hex;
 use crate::orders::Order;
+use crate::ran::Ran;
 use crate::sides::{ours, theirs};
 use crate::transfer::Transfer;
 use coe_desk::AbortCode;
@@ -14,6 +15,8 @@ use std::fmt;
 #[derive(Debug, Clone)]
 pub enum Case {
     Transfer(Transfer),
+    /// Two at one desk, entered in this order before the first request. In the text `then` stands between them.
+    Pair(Transfer, Transfer),
     Frame(Frame),
     /// Every read of a finished payload.
     Payload(Vec<u8>),
@@ -36,6 +39,7 @@ impl Case {
     pub fn compare(&self, setting: &Setting) -> Verdict {
         match self {
             Case::Transfer(transfer) => compare_transfer(transfer, &setting.listed),
+            Case::Pair(first, second) => compare_pair(first, second, &setting.listed),
             Case::Frame(frame) => compare_frame(frame, &setting.listed),
             Case::Payload(payload) => compare_payload(payload),
             Case::AbortCode(number) => compare_abort_code(*number),
@@ -52,7 +56,10 @@ impl Case {
                 .map(Case::AbortCode)
                 .map_err(|_| format!("`{text}`: an abort code is as `abort 06020000`")),
             Some("order") => Order::parse(text["order".len()..].trim()).map(Case::Order),
-            _ => Transfer::parse(text).map(Case::Transfer),
+            _ => match text.split_once("\nthen\n") {
+                Some((first, second)) => Ok(Case::Pair(Transfer::parse(first)?, Transfer::parse(second)?)),
+                None => Transfer::parse(text).map(Case::Transfer),
+            },
         }
     }
 }
@@ -61,6 +68,7 @@ impl fmt::Display for Case {
     fn fmt(&self, f: &mut fmt::Formatter<'_>) -> fmt::Result {
         match self {
             Case::Transfer(transfer) => transfer.fmt(f),
+            Case::Pair(first, second) => write!(f, "{first}\nthen\n{second}"),
             Case::Frame(frame) => frame.fmt(f),
             Case::Payload(payload) => write!(f, "payload {}", hex::text(payload)),
             Case::AbortCode(number) => write!(f, "abort {number:08x}"),
@@ -70,11 +78,23 @@ impl fmt::Display for Case {
 }
 
 fn compare_transfer(transfer: &Transfer, listed: &Listed) -> Verdict {
-    let ours = ours::run(transfer)?;
-    explain(transfer, listed, |theirs| *theirs == ours).map_err(|theirs| {
+    compare_runs(transfer, &ours::run(transfer)?, listed)
+}
+
+fn compare_runs(transfer: &Transfer, ours: &Ran, listed: &Listed) -> Verdict {
+    explain(transfer, listed, |theirs| theirs == ours).map_err(|theirs| {
         let parts = ours.differing(&theirs.ran).join(", ");
         format!("differing: {parts}\nhere: {ours}\nRust: {}\n      {:?}", theirs.ran, theirs.outcome)
     })
+}
+
+/// The Rust has no line: its second call begins when the first has ended, with the counter that the first left.
+fn compare_pair(first: &Transfer, second: &Transfer, listed: &Listed) -> Verdict {
+    let (head, next) = ours::run_pair(first, second)?;
+    let mut met = compare_runs(first, &head, listed).map_err(|why| format!("the first of two\n{why}"))?;
+    let second = Transfer { counter: head.counter, ..second.clone() };
+    met.extend(compare_runs(&second, &next, listed).map_err(|why| format!("the second of two\n{why}"))?);
+    Ok(met)
 }
 
 fn compare_frame(frame: &Frame, listed: &Listed) -> Verdict {

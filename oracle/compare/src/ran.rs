@@ -46,6 +46,11 @@ pub struct Ran {
 }
 
 impl Ran {
+    /// Nothing but the end is known yet.
+    pub fn ending(end: End) -> Ran {
+        Ran { end, read: Read::Nothing, sent: Vec::new(), judged: 0, counter: 0, stored: Vec::new() }
+    }
+
     /// The parts in which two runs differ, by name.
     pub fn differing(&self, other: &Ran) -> Vec<&'static str> {
         let parts = [

@@ -1,7 +1,7 @@
 //! Requests that the Rust takes, and document 01 refuses or writes otherwise.
 use super::{Difference, Instead, Parting, Rule};
 use crate::frames::{Frame, Written};
-use crate::ran::{End, Ran, Read};
+use crate::ran::{End, Ran};
 use crate::sides::theirs;
 use crate::sides::theirs::Asked;
 use crate::transfer::{Kind, Transfer, FILL};
@@ -21,14 +21,8 @@ pub const ALL: &[Difference] = &[
 
 /// 15 takes no counter, sends nothing and stores nothing.
 fn entry_refused<'a>(transfer: &Transfer) -> Option<Instead<'a>> {
-    Some(Instead::Ran(Ran {
-        end: End::Refused(0x15),
-        read: Read::Nothing,
-        sent: Vec::new(),
-        judged: 0,
-        counter: transfer.counter,
-        stored: vec![FILL; transfer.room],
-    }))
+    let refused = Ran::ending(End::Refused(0x15));
+    Some(Instead::Ran(Ran { counter: transfer.counter, stored: vec![FILL; transfer.room], ..refused }))
 }
 
 /// The Rust's request is that of four bytes 00: size 4 does not go into two bits.

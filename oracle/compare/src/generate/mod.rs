@@ -34,6 +34,7 @@ pub const ALL: &[Generator] = &[
     Generator { name: "segments", share: 10, limit: None, make: |rng, _| whole::segments(rng) },
     Generator { name: "lists", share: 8, limit: None, make: |rng, _| whole::lists(rng) },
     Generator { name: "damaged", share: 14, limit: None, make: |rng, _| whole::damaged(rng) },
+    Generator { name: "pairs", share: 5, limit: None, make: |rng, _| whole::pair(rng) },
     Generator { name: "numbers", share: 5, limit: None, make: |rng, _| whole::numbers(rng) },
     Generator { name: "payloads", share: 3, limit: None, make: |rng, _| whole::payload(rng) },
     Generator { name: "frames", share: 4, limit: None, make: |rng, _| whole::frame(rng) },

@@ -28,6 +28,24 @@ pub fn damaged(rng: &mut Rng) -> Case {
     Case::Transfer(transfer)
 }
 
+/// Two transfers at one desk. The second's counter is what the first leaves.
+pub fn pair(rng: &mut Rng) -> Case {
+    let [first, second] = [entered(rng), entered(rng)];
+    Case::Pair(first, second)
+}
+
+/// A transfer whose entry is not refused, damaged now and then.
+fn entered(rng: &mut Rng) -> Transfer {
+    let mut transfer = any(rng);
+    if transfer.kind == Kind::Write {
+        transfer.data = vec![8];
+    }
+    if rng.once_in(4) {
+        damage(rng, &mut transfer);
+    }
+    transfer
+}
+
 /// Replies whose length, length field, complete size and N stand round each other and round the rules' limits.
 pub fn edges(rng: &mut Rng) -> Case {
     let kind = rng.pick(&[Kind::Read, Kind::Read, Kind::Read, Kind::Write, Kind::List, Kind::Quantities]);

@@ -2,7 +2,7 @@
 use super::guarded::Guarded;
 use super::judge::Beside;
 use crate::ran::{End, Ran, Read};
-use crate::transfer::{Kind, Transfer};
+use crate::transfer::{Kind, Transfer, FILL};
 use coe_desk::{reads, Answer, Desk, ListKind, Order, Payload, Refusal, Seat, SubIndex, FRAME_LENGTH};
 use ethercrab::play::Number;
 
@@ -19,21 +19,34 @@ pub const LIST_KINDS: [ListKind; 5] = [
 pub fn run(transfer: &Transfer) -> Result<Ran, String> {
     let mut desk = desk_at(transfer.counter)?;
     let seat = Seat::ALL[usize::from(transfer.index) % Seat::ALL.len()];
-    let mut data = Guarded::new(transfer.room);
-    let mut ran = Ran { end: End::Left, read: Read::Nothing, sent: Vec::new(), judged: 0, counter: 0, stored: Vec::new() };
-    ran.end = match desk.enter_within(seat, order(transfer)?, transfer.budget) {
-        Err(refusal) => End::Refused(refusal.number()),
-        Ok(()) => exchange(&mut desk, seat, transfer, &mut data, &mut ran)?,
+    let mut ran = match desk.enter_within(seat, order(transfer)?, transfer.budget) {
+        Err(refusal) => Ran { stored: vec![FILL; transfer.room], ..Ran::ending(End::Refused(refusal.number())) },
+        Ok(()) => exchange(&mut desk, seat, transfer, None)?,
     };
-    ran.stored = data.inside("data buffer")?.to_vec();
-    if let End::Done { length } = ran.end {
-        ran.read = read(transfer.kind, Payload::new(&ran.stored, length));
-    }
-    if desk.enter(seat, Order::Quantities).is_err() {
-        return Err("the seat is not free after the transfer".into());
-    }
-    ran.counter = send(&mut desk, seat)?[5] >> 4;
+    ran.counter = next_counter(&mut desk, seat)?;
     Ok(ran)
+}
+
+/// Plays two transfers that have both entered: the second waits, and tries its calls, until the first has ended.
+pub fn run_pair(first: &Transfer, second: &Transfer) -> Result<(Ran, Ran), String> {
+    let mut desk = desk_at(first.counter)?;
+    let [head, waiting] = [Seat::ALL[3], Seat::ALL[6]];
+    let mut enter = |seat, transfer| match desk.enter_within(seat, order(transfer)?, transfer.budget) {
+        Err(refusal) => Err(format!("an entry was refused: {refusal}")),
+        Ok(()) => Ok(()),
+    };
+    enter(head, first)?;
+    enter(waiting, second)?;
+    let mut first = exchange(&mut desk, head, first, Some(waiting))?;
+    let mut second = exchange(&mut desk, waiting, second, None)?;
+    first.counter = second.sent[0][5] >> 4;
+    second.counter = next_counter(&mut desk, waiting)?;
+    Ok((first, second))
+}
+
+fn next_counter(desk: &mut Desk, seat: Seat) -> Result<u8, String> {
+    desk.enter(seat, Order::Quantities).map_err(|_| "the seat is not free after the transfer")?;
+    Ok(send(desk, seat)?[5] >> 4)
 }
 
 fn order(transfer: &Transfer) -> Result<Order<'_>, String> {
@@ -67,13 +80,33 @@ fn send(desk: &mut Desk, seat: Seat) -> Result<Vec<u8>, String> {
     Ok(frame.inside("frame buffer")?.to_vec())
 }
 
-fn exchange(desk: &mut Desk, seat: Seat, transfer: &Transfer, data: &mut Guarded, ran: &mut Ran) -> Result<End, String> {
+/// The head's transfer, to its end.
+fn exchange(desk: &mut Desk, seat: Seat, transfer: &Transfer, waiting: Option<Seat>) -> Result<Ran, String> {
+    let mut data = Guarded::new(transfer.room);
+    let mut ran = Ran::ending(End::Left);
+    ran.end = answers(desk, seat, transfer, waiting, &mut data, &mut ran)?;
+    ran.stored = data.inside("data buffer")?.to_vec();
+    if let End::Done { length } = ran.end {
+        ran.read = read(transfer.kind, Payload::new(&ran.stored, length));
+    }
+    Ok(ran)
+}
+
+fn answers(
+    desk: &mut Desk,
+    seat: Seat,
+    transfer: &Transfer,
+    waiting: Option<Seat>,
+    data: &mut Guarded,
+    ran: &mut Ran,
+) -> Result<End, String> {
     let mut beside = Beside::new(transfer);
     let mut request_due = true;
     for reply in &transfer.replies {
         if request_due {
             ran.sent.push(send(desk, seat)?);
         }
+        waiting.map_or(Ok(()), |waiting| try_out_of_turn(desk, waiting))?;
         let answer = desk.receive(seat, reply, data.lent());
         beside.agrees(reply, answer, data.inside("data buffer")?)?;
         ran.judged += usize::from(answer.map_or_else(Refusal::is_over, |_| true));
@@ -89,6 +122,16 @@ fn exchange(desk: &mut Desk, seat: Seat, transfer: &Transfer, data: &mut Guarded
         ran.sent.push(send(desk, seat)?);
     }
     leave(desk, seat, End::Left)
+}
+
+/// Who waits is answered 13, and nothing of what it lent is touched.
+fn try_out_of_turn(desk: &mut Desk, seat: Seat) -> Result<(), String> {
+    let mut lent = Guarded::new(FRAME_LENGTH);
+    let calls = [desk.send(seat, lent.lent()).err(), desk.receive(seat, &[], lent.lent()).err()];
+    if calls != [Some(Refusal::NotAtHead); 2] || lent.inside("buffers of who waits")?.iter().any(|&byte| byte != FILL) {
+        return Err(format!("who waits was answered {calls:?}, or its buffer was written to"));
+    }
+    Ok(())
 }
 
 fn leave(desk: &mut Desk, seat: Seat, end: End) -> Result<End, String> {
