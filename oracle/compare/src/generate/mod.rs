@@ -27,7 +27,6 @@ impl Generator {
 }
 
 pub const ALL: &[Generator] = &[
-    Generator { name: "long", share: 0, limit: Some(long::COUNT), make: long::case },
     Generator { name: "heads", share: 30, limit: Some(sweeps::HEADS), make: sweeps::head },
     Generator { name: "lengths", share: 10, limit: Some(sweeps::LENGTHS), make: sweeps::length },
     Generator { name: "edges", share: 16, limit: None, make: |rng, _| whole::edges(rng) },
@@ -38,9 +37,12 @@ pub const ALL: &[Generator] = &[
     Generator { name: "numbers", share: 5, limit: None, make: |rng, _| whole::numbers(rng) },
     Generator { name: "payloads", share: 3, limit: None, make: |rng, _| whole::payload(rng) },
     Generator { name: "frames", share: 4, limit: None, make: |rng, _| whole::frame(rng) },
+    Generator { name: "abort codes", share: 0, limit: Some(sweeps::ABORT_CODES), make: |_, place| sweeps::abort_code(place) },
+    Generator { name: "long", share: 0, limit: Some(long::COUNT), make: long::case },
 ];
 
-/// How many cases of each generator a run of so many has. A sweep has no more than all of its cases, and what is long is always run.
+/// How many cases of each generator a run of so many has. A sweep has no more than all of its cases, and without a share it
+/// always has them all.
 pub fn counts(cases: u64) -> impl Iterator<Item = (&'static Generator, u64)> {
     let shares: u64 = ALL.iter().map(|generator| generator.share).sum();
     ALL.iter().map(move |generator| match generator.limit {

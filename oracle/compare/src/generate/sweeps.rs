@@ -15,6 +15,11 @@ pub const HEADS: u64 = SITUATIONS * HEAD_LENGTHS * 16 * 16 * 256;
 /// Reply lengths 9 to 32, length fields 0 to 23, every byte 8.
 pub const LENGTHS: u64 = SITUATIONS * FIELD_LENGTHS * FIELD_LENGTHS * 256;
 
+/// The high halves of ETG.1000.6, Table 41, each with the low halves 0 to 0x4f.
+pub const ABORT_CODES: u64 = 0x50 * ABORT_CLASSES.len() as u64;
+
+const ABORT_CLASSES: [u32; 10] = [0x0503, 0x0504, 0x0601, 0x0602, 0x0604, 0x0606, 0x0607, 0x0609, 0x060a, 0x0800];
+
 /// Where case `number` of a sweep of `limit` stands: each place once, and neighbours far apart.
 pub fn place(seed: u64, number: u64, limit: u64) -> u64 {
     let mut stride = (limit as f64 * 0.618) as u64 | 1;
@@ -107,6 +112,11 @@ pub fn length(rng: &mut Rng, mut place: u64) -> Case {
     put(&mut reply, 8, byte_8);
     transfer.replies.push(reply);
     Case::Transfer(transfer)
+}
+
+pub fn abort_code(mut place: u64) -> Case {
+    let low = take(&mut place, 0x50) as u32;
+    Case::AbortCode(ABORT_CLASSES[place as usize] << 16 | low)
 }
 
 #[cfg(test)]

@@ -132,9 +132,6 @@ pub fn numbers(rng: &mut Rng) -> Case {
 }
 
 pub fn payload(rng: &mut Rng) -> Case {
-    if rng.once_in(4) {
-        return Case::AbortCode(near_an_abort_code(rng));
-    }
     let length = if rng.once_in(10) { rng.below(300) } else { rng.below(14) };
     let mut payload = rng.bytes(length);
     if rng.once_in(3) {
@@ -142,16 +139,6 @@ pub fn payload(rng: &mut Rng) -> Case {
         payload.fill(byte);
     }
     Case::Payload(payload)
-}
-
-/// Codes of ETG.1000.6, Table 41, differ in few bits.
-fn near_an_abort_code(rng: &mut Rng) -> u32 {
-    let high = rng.pick(&[0x0503, 0x0504, 0x0601, 0x0602, 0x0604, 0x0606, 0x0607, 0x0609, 0x060a, 0x0800]);
-    let low = rng.pick(&[0x0000, 0x0010, 0x0020, 0x0030, 0x0040]) + rng.below(8) as u32;
-    if rng.once_in(8) {
-        return rng.next() as u32;
-    }
-    high << 16 | low
 }
 
 pub fn frame(rng: &mut Rng) -> Case {
@@ -199,15 +186,20 @@ pub fn order(rng: &mut Rng) -> Case {
 
 fn entry_line(rng: &mut Rng, transfer: &Transfer) -> String {
     let index = hex::digits(&transfer.index.to_le_bytes());
-    let form = if rng.once_in(20) { rng.below(8) as u8 } else { 0 };
-    match (form, transfer.kind, transfer.sub) {
-        (6 | 7, ..) => format!("{form:02x}{index}"),
-        (_, Kind::List, _) => format!("04{:02x}", transfer.index),
-        (_, Kind::Quantities, _) => "05".into(),
-        (_, Kind::Write, sub) => format!("03{index}{:02x}{}", sub.unwrap_or(1), hex::digits(&transfer.data)),
-        (_, _, None) => format!("02{index}"),
-        (_, _, Some(sub)) => format!("01{index}{sub:02x}"),
+    match (transfer.kind, transfer.sub) {
+        _ if rng.once_in(12) => any_entry(rng),
+        (Kind::List, _) => format!("04{:02x}", transfer.index),
+        (Kind::Quantities, _) => "05".into(),
+        (Kind::Write, sub) => format!("03{index}{:02x}{}", sub.unwrap_or(1), hex::digits(&transfer.data)),
+        (_, None) => format!("02{index}"),
+        (_, Some(sub)) => format!("01{index}{sub:02x}"),
     }
+}
+
+/// A form that is listed or not, of any length.
+fn any_entry(rng: &mut Rng) -> String {
+    let count = rng.below(10);
+    format!("{:02x}{}", rng.below(8), hex::digits(&rng.bytes(count)))
 }
 
 /// A bad character, a line too long or odd, an empty line, lines joined or cut.
