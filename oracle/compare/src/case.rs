@@ -47,6 +47,18 @@ impl Case {
         }
     }
 
+    /// What both sides say of a transfer or a frame.
+    pub fn both_sides(&self) -> Result<String, String> {
+        Ok(match self {
+            Case::Transfer(transfer) => {
+                let theirs = theirs::run(&theirs::Asked::plainly(transfer));
+                format!("here: {}\nRust: {}\n      {:?}\n", ours::run(transfer)?, theirs.ran, theirs.outcome)
+            }
+            Case::Frame(frame) => format!("here: {}\nRust: {}\n", frame.ours()?, frame.theirs()),
+            _ => String::new(),
+        })
+    }
+
     pub fn parse(text: &str) -> Result<Case, String> {
         let text = text.trim();
         match text.split_whitespace().next() {
@@ -84,7 +96,7 @@ fn compare_transfer(transfer: &Transfer, listed: &Listed) -> Verdict {
 fn compare_runs(transfer: &Transfer, ours: &Ran, listed: &Listed) -> Verdict {
     explain(transfer, listed, |theirs| theirs == ours).map_err(|theirs| {
         let parts = ours.differing(&theirs.ran).join(", ");
-        format!("differing: {parts}\nhere: {ours}\nRust: {}\n      {:?}", theirs.ran, theirs.outcome)
+        format!("here: {ours}\nRust: {}\n      {:?}\ndiffering: {parts}", theirs.ran, theirs.outcome)
     })
 }
 

@@ -11,12 +11,15 @@ mod rng;
 mod sides;
 mod stored;
 mod tally;
+#[cfg(test)]
+mod tests;
 mod transfer;
 
 use case::{Case, Setting};
 use differences::Listed;
 use generate::Generator;
 use options::Options;
+use std::path::Path;
 use std::process::exit;
 use std::time::Instant;
 use tally::Tally;
@@ -41,12 +44,9 @@ fn run(options: &Options) -> Result<String, String> {
         std::fs::read_to_string(&options.differences).map_err(|error| format!("{}: {error}", options.differences.display()))?;
     let setting = Setting { listed: Listed::parse(&text)?, order_program: options.order_program.clone() };
     if let Some(file) = &options.replay {
-        let text = std::fs::read_to_string(file).map_err(|error| format!("{}: {error}", file.display()))?;
-        return Case::parse(&text)?
-            .compare(&setting)
-            .map(|met| format!("the two sides agree but for these listed differences: {met:?}"));
+        return replayed(file, &setting);
     }
-    let mut tally = Tally::default();
+    let mut tally = Tally::new(options.seed);
     if !options.generators_only {
         listed_inputs(&setting, &mut tally)?;
         stored_cases(options, &setting, &mut tally)?;
@@ -60,10 +60,27 @@ fn run(options: &Options) -> Result<String, String> {
     Ok(tally.to_string())
 }
 
+fn replayed(file: &Path, setting: &Setting) -> Result<String, String> {
+    let text = std::fs::read_to_string(file).map_err(|error| format!("{}: {error}", file.display()))?;
+    let case = Case::parse(&text)?;
+    let met = case.compare(setting)?;
+    let both = case.both_sides()?;
+    Ok(match met.is_empty() {
+        true => format!("{both}the two sides agree"),
+        false => format!("{both}the two sides part as {} says", met.join(" and ")),
+    })
+}
+
 /// Each difference in the list is known and its row shows its smallest input, and on that input the two sides part as it says.
 fn listed_inputs(setting: &Setting, tally: &mut Tally) -> Result<(), String> {
     if let Some(id) = setting.listed.unknown().first() {
         return Err(format!("{id} is listed, and this program knows no input of it: add it to compare/src/differences"));
+    }
+    // Another row's input may need a row that is missing: that row's own input is shown first.
+    for difference in differences::all().filter(|difference| !setting.listed.has(difference.id)) {
+        let case = Case::parse(difference.smallest)?;
+        case.compare(setting)
+            .map_err(|why| format!("{} is not listed, and on its input the sides part:\n\n{case}\n\n{why}", difference.id))?;
     }
     let nothing_listed = Setting { listed: Listed::parse("")?, order_program: Vec::new() };
     for (number, difference) in differences::all().enumerate() {

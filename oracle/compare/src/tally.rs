@@ -5,12 +5,17 @@ use std::fmt;
 
 #[derive(Default)]
 pub struct Tally {
+    seed: u64,
     compared: Vec<(String, u64)>,
     /// By the number of the id, so that D2 stands before D10.
     met: BTreeMap<(usize, &'static str), u64>,
 }
 
 impl Tally {
+    pub fn new(seed: u64) -> Tally {
+        Tally { seed, ..Tally::default() }
+    }
+
     pub fn add(&mut self, source: &str, met: &[&'static str]) {
         match self.compared.last_mut() {
             Some((last, count)) if last == source => *count += 1,
@@ -35,7 +40,8 @@ impl Tally {
     pub fn failed(&self, source: &str, number: u64, case: &Case, why: &str) -> String {
         format!(
             "the two sides part, and no listed difference says so\n\
-             found by {source}, number {number} counted from 0, after {} cases in all\n\n{case}\n\n{why}",
+             found by {source}, seed {}, number {number} counted from 0, after {} cases in all\n\n{case}\n\n{why}",
+            self.seed,
             self.total()
         )
     }
