@@ -7,7 +7,7 @@
 pub mod error;
 mod fmt;
 pub mod frames;
-#[allow(dead_code, mismatched_lifetime_syntaxes, unexpected_cfgs)]
+#[allow(clippy::unit_arg, dead_code, mismatched_lifetime_syntaxes, unexpected_cfgs)]
 #[path = "../../published/src/mailbox/mod.rs"]
 #[rustfmt::skip]
 mod mailbox;

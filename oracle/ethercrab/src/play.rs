@@ -77,9 +77,9 @@ pub struct Played {
 }
 
 thread_local! {
-    static BUFFER: Cell<(usize, u8)> = Cell::new((0, 0));
-    static BUFFER_AFTER: RefCell<Vec<u8>> = RefCell::new(Vec::new());
-    static PLAYING: Cell<bool> = Cell::new(false);
+    static BUFFER: Cell<(usize, u8)> = const { Cell::new((0, 0)) };
+    static BUFFER_AFTER: RefCell<Vec<u8>> = const { RefCell::new(Vec::new()) };
+    static PLAYING: Cell<bool> = const { Cell::new(false) };
 }
 
 /// Any type of as many bytes as was lent: its value is the payload, whatever its length.

@@ -7,8 +7,8 @@ use std::cell::{Cell, RefCell};
 use std::ops::Deref;
 
 thread_local! {
-    static ROOM: Cell<usize> = Cell::new(usize::MAX);
-    static STORED: RefCell<std::vec::Vec<u8>> = RefCell::new(std::vec::Vec::new());
+    static ROOM: Cell<usize> = const { Cell::new(usize::MAX) };
+    static STORED: RefCell<std::vec::Vec<u8>> = const { RefCell::new(std::vec::Vec::new()) };
 }
 
 /// From now on, in this thread, no vector is extended beyond `room` elements; nothing counts as stored yet.

@@ -48,7 +48,7 @@ fn capacity_of_a_list<'a>(parting: &Parting<'a>) -> Option<Instead<'a>> {
 /// The Rust after these replies, if it goes on then.
 fn going_on_after(parting: &Parting<'_>, replies: usize) -> Option<Ran> {
     let ran = theirs::run_to(parting.asked, replies).ran;
-    (ran.end == End::Left && ran.judged == replies).then(|| ran)
+    (ran.end == End::Left && ran.judged == replies).then_some(ran)
 }
 
 fn first_long_reply(parting: &Parting<'_>) -> Option<usize> {

@@ -62,7 +62,7 @@ pub fn all() -> impl Iterator<Item = &'static Difference> {
 }
 
 /// What explained two sides that part, by id, or the answer of the Rust that nothing explains.
-pub fn explain(transfer: &Transfer, listed: &Listed, same: impl Fn(&Ran) -> bool) -> Result<Vec<&'static str>, Answered> {
+pub fn explain(transfer: &Transfer, listed: &Listed, same: impl Fn(&Ran) -> bool) -> Result<Vec<&'static str>, Box<Answered>> {
     let mut asked = Asked::plainly(transfer);
     let mut met = Vec::new();
     loop {
@@ -73,7 +73,7 @@ pub fn explain(transfer: &Transfer, listed: &Listed, same: impl Fn(&Ran) -> bool
         let parting = Parting { asked: &asked, theirs: &theirs };
         let explained = all().filter(|difference| listed.has(difference.id)).find_map(|difference| match difference.rule {
             Rule::Transfer(rule) => match rule(&parting)? {
-                Instead::Ran(ran) => same(&ran).then(|| (difference.id, None)),
+                Instead::Ran(ran) => same(&ran).then_some((difference.id, None)),
                 Instead::Asked(asked) => Some((difference.id, Some(owned(asked)))),
             },
             Rule::Frame(_) => None,
@@ -86,7 +86,7 @@ pub fn explain(transfer: &Transfer, listed: &Listed, same: impl Fn(&Ran) -> bool
                     None => return Ok(met),
                 }
             }
-            None => return Err(theirs),
+            None => return Err(Box::new(theirs)),
         }
     }
 }

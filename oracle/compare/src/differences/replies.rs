@@ -70,7 +70,7 @@ fn panicked(parting: &Parting<'_>, text: &str) -> bool {
 /// The reply at which the Rust's assertion against emergencies failed.
 fn asserted<'a>(parting: &Parting<'a>) -> Option<&'a [u8]> {
     let reply = parting.last_reply()?;
-    (panicked(parting, "assertion") && !parting.transfer().is_information() && reply[7] >> 4 == EMERGENCY).then(|| reply)
+    (panicked(parting, "assertion") && !parting.transfer().is_information() && reply[7] >> 4 == EMERGENCY).then_some(reply)
 }
 
 fn emergency<'a>(parting: &Parting<'a>) -> Option<Instead<'a>> {

@@ -66,7 +66,7 @@ fn junk_behind_the_data(frame: &Frame, theirs: &Written) -> Option<Written> {
         return None;
     }
     packed[len..].fill(0);
-    (written != *theirs).then(|| written)
+    (written != *theirs).then_some(written)
 }
 
 /// The Rust packs the low three bits of a counter that is none.
