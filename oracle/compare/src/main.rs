@@ -19,7 +19,7 @@ use case::{Case, Setting};
 use differences::Listed;
 use generate::Generator;
 use options::Options;
-use std::path::Path;
+use std::io::Read;
 use std::process::exit;
 use std::time::Instant;
 use tally::Tally;
@@ -43,8 +43,8 @@ fn run(options: &Options) -> Result<String, String> {
     let text =
         std::fs::read_to_string(&options.differences).map_err(|error| format!("{}: {error}", options.differences.display()))?;
     let setting = Setting { listed: Listed::parse(&text)?, order_program: options.order_program.clone() };
-    if let Some(file) = &options.replay {
-        return replayed(file, &setting);
+    if options.replay {
+        return replayed(&setting);
     }
     let mut tally = Tally::new(options.seed);
     if !options.generators_only {
@@ -60,14 +60,15 @@ fn run(options: &Options) -> Result<String, String> {
     Ok(tally.to_string())
 }
 
-fn replayed(file: &Path, setting: &Setting) -> Result<String, String> {
-    let text = std::fs::read_to_string(file).map_err(|error| format!("{}: {error}", file.display()))?;
+fn replayed(setting: &Setting) -> Result<String, String> {
+    let mut text = String::new();
+    std::io::stdin().read_to_string(&mut text).map_err(|error| format!("standard input: {error}"))?;
     let case = Case::parse(&text)?;
     let met = case.compare(setting)?;
     let both = case.both_sides()?;
     Ok(match met.is_empty() {
         true => format!("{both}the two sides agree"),
-        false => format!("{both}the two sides part as {} says", met.join(" and ")),
+        false => format!("{both}the two sides part as listed: {}", met.join(", ")),
     })
 }
 

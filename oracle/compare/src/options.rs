@@ -12,7 +12,7 @@ compare: feeds the published Rust and the exported functions the same inputs, an
     --vectors FILE          the stored transfers: tools/cases/vectors.tsv
     --stored-orders FOLDER  the stored order files: stdin and stdout of crates/order_cases
     --generators-only       the generators alone: no listed inputs, nothing stored, no order files
-    --replay FILE           one case, as a failed run prints it, and nothing else";
+    --replay                the case on standard input, as a failed run prints it, and nothing else";
 
 #[derive(Debug)]
 pub struct Options {
@@ -24,7 +24,7 @@ pub struct Options {
     pub vectors: Option<PathBuf>,
     pub stored_orders: Option<PathBuf>,
     pub generators_only: bool,
-    pub replay: Option<PathBuf>,
+    pub replay: bool,
 }
 
 impl Options {
@@ -38,7 +38,7 @@ impl Options {
             vectors: None,
             stored_orders: None,
             generators_only: false,
-            replay: None,
+            replay: false,
         };
         while let Some(word) = words.next() {
             let mut value = || words.next().ok_or_else(|| format!("{word} needs a word behind it"));
@@ -52,7 +52,7 @@ impl Options {
                 "--vectors" => options.vectors = Some(value()?.into()),
                 "--stored-orders" => options.stored_orders = Some(value()?.into()),
                 "--generators-only" => options.generators_only = true,
-                "--replay" => options.replay = Some(value()?.into()),
+                "--replay" => options.replay = true,
                 _ => return Err(format!("{word} is no option")),
             }
         }
