@@ -1,6 +1,6 @@
 //! Requests that the Rust takes, and document 01 refuses or writes otherwise.
 use super::{Difference, Instead, Parting, Rule};
-use crate::frames::{Frame, Written};
+use crate::frames::{Frame, Request, Written};
 use crate::ran::{End, Ran};
 use crate::sides::theirs;
 use crate::sides::theirs::Asked;
@@ -37,8 +37,11 @@ fn nothing_to_write<'a>(parting: &Parting<'a>) -> Option<Instead<'a>> {
 }
 
 fn frame_of_nothing(frame: &Frame, theirs: &Written) -> Option<Written> {
-    match frame {
-        Frame::Download { len: 0, .. } => (*theirs == frame.claiming_four().theirs()).then(|| frame.refused(0x15)),
+    match frame.request {
+        Request::Download { index, sub, data, len: 0 } => {
+            let of_four = Frame { request: Request::Download { index, sub, data, len: 4 }, ..*frame };
+            (*theirs == of_four.theirs()).then(|| frame.refused(0x15))
+        }
         _ => None,
     }
 }
@@ -56,8 +59,8 @@ fn too_much_to_write<'a>(parting: &Parting<'a>) -> Option<Instead<'a>> {
 
 /// The Rust packs its array of four; we have the data alone.
 fn junk_behind_the_data(frame: &Frame, theirs: &Written) -> Option<Written> {
-    let (data, len) = match frame {
-        Frame::Download { data, len, .. } if *len < 4 => (data, usize::from(*len)),
+    let (data, len) = match frame.request {
+        Request::Download { data, len, .. } if len < 4 => (data, usize::from(len)),
         _ => return None,
     };
     let mut written = theirs.clone();
@@ -71,14 +74,14 @@ fn junk_behind_the_data(frame: &Frame, theirs: &Written) -> Option<Written> {
 
 /// The Rust packs the low three bits of a counter that is none.
 fn counter(frame: &Frame, theirs: &Written) -> Option<Written> {
-    let low = frame.with_counter(frame.counter() & 7);
-    (!(1..=7).contains(&frame.counter()) && *theirs == low.theirs()).then(|| frame.refused(0x15))
+    let low = Frame { counter: frame.counter & 7, ..*frame };
+    (!(1..=7).contains(&frame.counter) && *theirs == low.theirs()).then(|| frame.refused(0x15))
 }
 
 /// The Rust takes a buffer that the frame fits in.
 fn buffer_length(frame: &Frame, theirs: &Written) -> Option<Written> {
-    let so = !(16..=1486).contains(&frame.size()) && (1..=7).contains(&frame.counter());
-    (so && (theirs.number == 0x02) == (frame.size() >= frame.packed_len())).then(|| frame.refused(0x16))
+    let so = !(16..=1486).contains(&frame.size) && (1..=7).contains(&frame.counter);
+    (so && (theirs.number == 0x02) == (frame.size >= frame.packed_len())).then(|| frame.refused(0x16))
 }
 
 /// The Rust's writers leave what stands behind the frame; it is zeros once the frame is in the mailbox.

@@ -3,7 +3,7 @@ use super::conversations::{any, asked, list, segmented};
 use super::damage::{damage, EDGES};
 use super::replies;
 use crate::case::Case;
-use crate::frames::Frame;
+use crate::frames::{Frame, Request};
 use crate::hex;
 use crate::orders::Order;
 use crate::rng::Rng;
@@ -150,19 +150,20 @@ pub fn frame(rng: &mut Rng) -> Case {
         _ => 16,
     };
     let (index, sub) = (rng.word(), if rng.once_in(4) { None } else { Some(rng.byte()) });
-    Case::Frame(match rng.below(5) {
-        0 => Frame::Upload { counter, index, sub, size },
-        1 => Frame::Segment { counter, toggle: rng.once_in(2), size },
-        2 => Frame::List { counter, kind: 1 + rng.below(5) as u8, size },
-        3 => Frame::Quantities { counter, size },
+    let request = match rng.below(5) {
+        0 => Request::Upload { index, sub },
+        1 => Request::Segment { toggle: rng.once_in(2) },
+        2 => Request::List { kind: 1 + rng.below(5) as u8 },
+        3 => Request::Quantities,
         _ => {
-            let (data, len) = ((rng.next() as u32).to_le_bytes(), rng.below(5) as u8);
-            let behind = if rng.once_in(4) { 0xff } else { 0 };
-            let mut cut = data;
-            cut[usize::from(len)..].iter_mut().for_each(|byte| *byte &= behind);
-            Frame::Download { counter, index, sub, data: cut, len, size }
+            let (mut data, len) = ((rng.next() as u32).to_le_bytes(), rng.below(5) as u8);
+            if !rng.once_in(4) {
+                data[usize::from(len)..].fill(0);
+            }
+            Request::Download { index, sub, data, len }
         }
-    })
+    };
+    Case::Frame(Frame { counter, request, size })
 }
 
 pub fn order(rng: &mut Rng) -> Case {
