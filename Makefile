@@ -1,6 +1,6 @@
-# The commands of the README: `make test`, `make run` (`make run FILE=x` runs an order file of yours), `make mutants` and
-# `make wireshark`.
-.PHONY: test run mutants wireshark
+# The commands of the README: `make test`, `make run` (`make run FILE=x` runs an order file of yours), `make mutants`, `make differential`
+# (CASES=, ORDERS= and SEED= choose how many cases and order files, and which), `make wrong-rules`, `make wireshark` and `make stored`.
+.PHONY: test run mutants differential wrong-rules wireshark stored
 
 test:
 	@tools/test
@@ -12,5 +12,14 @@ run:
 mutants:
 	@tools/mutants
 
+differential:
+	@tools/differential $(if $(CASES),--cases $(CASES)) $(if $(ORDERS),--orders $(ORDERS)) $(if $(SEED),--seed $(SEED))
+
+wrong-rules:
+	@tools/wrong-rules
+
 wireshark:
 	@tools/wireshark/run
+
+stored:
+	@tools/stored

@@ -1,0 +1,128 @@
+//! Replies at which the Rust panics or refuses, and document 01 has a number.
+use super::{Difference, Instead, Parting, Rule};
+use crate::ran::{End, Ran, Read};
+use crate::sides::theirs::Asked;
+use ethercrab::error::Error;
+use ethercrab::play::Outcome;
+use ethercrab::wire::WireError;
+use std::borrow::Cow;
+
+const EMERGENCY: u8 = 1;
+
+pub const ASKED: &[Difference] = &[
+    Difference { id: "D7", smallest: "read 1018 01 - 4\n0a0000000013003002181001", rule: Rule::Transfer(specifier_0) },
+    Difference {
+        id: "D13",
+        smallest: "read 1018 01 - 4\n0a00000000130010001810010000000000000000",
+        rule: Rule::Transfer(emergency_with_specifier_0),
+    },
+];
+
+pub const ENDS: &[Difference] = &[
+    Difference {
+        id: "D8",
+        smallest: "read 1018 01 - 4\n0a00000000130010601810010000000000000000",
+        rule: Rule::Transfer(emergency),
+    },
+    Difference { id: "D9", smallest: "read 1018 01 - 4\n0a0000000013001060181001", rule: Rule::Transfer(short_emergency) },
+    Difference {
+        id: "D10",
+        smallest: "read 1018 01 - 9\n0a000000001300304118100109000000\n020000000013003061000000",
+        rule: Rule::Transfer(segment_length),
+    },
+    Difference { id: "D11", smallest: "list 0001 00 - 0\n070000000013008002000000", rule: Rule::Transfer(information_length) },
+    Difference { id: "D12", smallest: "list 0001 00 - 1\n090000000013008002000000", rule: Rule::Transfer(chunk_not_there) },
+    Difference { id: "D14", smallest: "read 1018 01 - 4\n0a0000000013003043181002", rule: Rule::Transfer(named_object) },
+    Difference { id: "D15", smallest: "list 0001 00 - 1\n0900000000130080020000000100aa", rule: Rule::Transfer(undecoded) },
+];
+
+fn length_field(reply: &[u8]) -> usize {
+    usize::from(reply[0]) | usize::from(reply[1]) << 8
+}
+
+/// Any other specifier but 4 is judged alike: the Rust is asked again with 2.
+fn with_specifier_2<'a>(parting: &Parting<'a>, of_emergency: bool) -> Option<Instead<'a>> {
+    let reply = parting.last_reply()?;
+    let refused = parting.theirs.outcome == Outcome::Refused(Error::Wire(WireError::InvalidValue));
+    if !refused || parting.transfer().is_information() || reply.len() < 12 || reply[8] >> 5 != 0 {
+        return None;
+    }
+    if (reply[7] >> 4 == EMERGENCY) != of_emergency {
+        return None;
+    }
+    let mut transfer = parting.transfer().clone();
+    transfer.replies[parting.theirs.ran.judged - 1][8] |= 2 << 5;
+    Some(Instead::Asked(Asked { transfer: Cow::Owned(transfer), ..*parting.asked }))
+}
+
+fn specifier_0<'a>(parting: &Parting<'a>) -> Option<Instead<'a>> {
+    with_specifier_2(parting, false)
+}
+
+fn emergency_with_specifier_0<'a>(parting: &Parting<'a>) -> Option<Instead<'a>> {
+    with_specifier_2(parting, true)
+}
+
+fn panicked(parting: &Parting<'_>, text: &str) -> bool {
+    matches!(&parting.theirs.ran.end, End::Panicked(said) if said.contains(text))
+}
+
+/// The reply at which the Rust's assertion against emergencies failed.
+fn asserted<'a>(parting: &Parting<'a>) -> Option<&'a [u8]> {
+    let reply = parting.last_reply()?;
+    (panicked(parting, "assertion") && !parting.transfer().is_information() && reply[7] >> 4 == EMERGENCY).then_some(reply)
+}
+
+fn emergency<'a>(parting: &Parting<'a>) -> Option<Instead<'a>> {
+    let reply = asserted(parting).filter(|reply| reply.len() >= 20)?;
+    let code = u32::from(reply[12]) | u32::from(reply[13]) << 8;
+    parting.ending(End::Over { number: 0x21, code, index: 0, sub: reply[14] })
+}
+
+fn short_emergency<'a>(parting: &Parting<'a>) -> Option<Instead<'a>> {
+    asserted(parting).filter(|reply| (12..20).contains(&reply.len()))?;
+    parting.ending(End::over(0x20))
+}
+
+fn segment_length<'a>(parting: &Parting<'a>) -> Option<Instead<'a>> {
+    let of_segment = !parting.transfer().is_information() && parting.theirs.ran.sent.len() > 1;
+    let so = of_segment && panicked(parting, "subtract with overflow") && length_field(parting.last_reply()?) < 3;
+    so.then(|| parting.ending(End::over(0x26)))?
+}
+
+fn information_length<'a>(parting: &Parting<'a>) -> Option<Instead<'a>> {
+    let so = parting.transfer().is_information() && panicked(parting, "subtract with overflow");
+    (so && length_field(parting.last_reply()?) < 8).then(|| parting.ending(End::over(0x26)))?
+}
+
+fn chunk_not_there<'a>(parting: &Parting<'a>) -> Option<Instead<'a>> {
+    let reply = parting.last_reply()?;
+    let earlier = &parting.transfer().replies[..parting.theirs.ran.judged - 1];
+    let begins_at = if earlier.iter().any(|reply| reply[8] & 0x7f == 2) { 12 } else { 14 };
+    let so = parting.transfer().is_information() && panicked(parting, "range end index");
+    (so && begins_at + length_field(reply) - 8 > reply.len()).then(|| parting.ending(End::over(0x25)))?
+}
+
+/// 23 and 24 name the reply's object in the Rust.
+fn named_object<'a>(parting: &Parting<'a>) -> Option<Instead<'a>> {
+    let reply = parting.last_reply()?;
+    match parting.theirs.ran.end {
+        End::Over { number: number @ (0x23 | 0x24), code: 0, index, sub }
+            if index.to_le_bytes() == reply[9..11] && sub == reply[11] =>
+        {
+            parting.ending(End::over(number))
+        }
+        _ => None,
+    }
+}
+
+/// The transfer is done, and the read of it refused: two answers here, one in the Rust.
+fn undecoded<'a>(parting: &Parting<'a>) -> Option<Instead<'a>> {
+    match parting.theirs.ran.end {
+        End::Undecoded { length } => {
+            let ran = parting.theirs.ran.clone();
+            Some(Instead::Ran(Ran { end: End::Done { length }, read: Read::Refused, ..ran }))
+        }
+        _ => None,
+    }
+}

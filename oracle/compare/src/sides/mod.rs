@@ -1,0 +1,5 @@
+//! The two sides of a comparison.
+pub mod guarded;
+pub mod judge;
+pub mod ours;
+pub mod theirs;

@@ -1,0 +1,51 @@
+use crate::case::{Case, Setting};
+use crate::differences::{all, Listed};
+use crate::generate;
+
+const LIST: &str = concat!(env!("CARGO_MANIFEST_DIR"), "/../../docs/DIFFERENCES.md");
+
+fn list() -> String {
+    std::fs::read_to_string(LIST).unwrap()
+}
+
+fn setting(text: &str) -> Setting {
+    ethercrab::play::keep_panics_quiet();
+    Setting { listed: Listed::parse(text).unwrap(), order_program: Vec::new() }
+}
+
+#[test]
+fn without_its_row_a_differences_input_fails() {
+    for difference in all() {
+        let row = format!("| {} |", difference.id);
+        let without: Vec<String> = list().lines().filter(|line| !line.starts_with(&row)).map(String::from).collect();
+        let case = Case::parse(difference.smallest).unwrap();
+        assert!(case.compare(&setting(&list())).unwrap().contains(&difference.id));
+        assert!(case.compare(&setting(&without.join("\n"))).is_err(), "{} is not needed", difference.id);
+    }
+}
+
+#[test]
+fn a_row_twice_or_of_an_unknown_difference_is_seen() {
+    assert!(Listed::parse("| D1 | x |\n| D1 | y |").is_err());
+    assert_eq!(Listed::parse("| D1 | x |\n| N1 | y |\n| D999 | z |").unwrap().unknown(), ["D999"]);
+    assert!(setting(&list()).listed.unknown().is_empty());
+}
+
+#[test]
+fn a_cases_text_is_the_case() {
+    let random = generate::ALL.iter().filter(|generator| generator.name != "long").chain([&generate::ORDERS]);
+    for generator in random {
+        for number in 0..100 {
+            let text = generator.case(3, number).to_string();
+            assert_eq!(Case::parse(&text).unwrap().to_string(), text);
+        }
+    }
+}
+
+#[test]
+fn a_case_is_made_again_from_its_number_and_other_seeds_make_others() {
+    for generator in generate::ALL {
+        assert_eq!(generator.case(1, 0).to_string(), generator.case(1, 0).to_string());
+        assert_ne!(generator.case(1, 0).to_string(), generator.case(2, 0).to_string());
+    }
+}
