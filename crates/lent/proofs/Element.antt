@@ -53,8 +53,8 @@ module _ {M : Type 1} (𝓤 : URA M) (H : Heap 𝓤) (q : Share) (τ : Ty) (b : 
       let rest = Row (o + size τ) us in
       let e : o ≡ 0 * size τ + o = omega arith in
       subst (λ (p : ℕ). ent 𝓤 (Row o (x ∷ us)) (Out o (x ∷ us) 0 x p)) e
-      (monoR 𝓤 (At o x) (allI 𝓤 (λ (u : Val). wand 𝓤 (At o u) (Row o (u ∷ us))) (λ u. wandI 𝓤 rest (At o u) (Row o (u ∷ us)) (comm∗ 𝓤
-      rest (At o u)))))
+      (monoR 𝓤 (At o x) (allI 𝓤 (λ (u : Val). wand 𝓤 (At o u) (Row o (u ∷ us)))
+      (λ u. wandI 𝓤 rest (At o u) (Row o (u ∷ us)) (comm∗ 𝓤 rest (At o u)))))
   out (x ∷ us) (suc k) o z h =
       let s = size τ in
       let y = getD us k z in
@@ -106,7 +106,7 @@ module _ {M : Type 1} {𝓤 : URA M} {H : Heap 𝓤} {A : Atoms 𝓤} {K : Type 
           let l = set us k u in
           let m : length l ≡ n = length-set us k u ∙ e in
           via 𝓤 (sep 𝓤 Home (Array l))
-          (monoR 𝓤 Home (subst (λ (j : ℕ). ent 𝓤 (Row′ u) (H .at q (tyArray τ j) b o (vstruct (ofList l)))) m (W .laws .elems-at q τ
-          b o l)))
+          (monoR 𝓤 Home (subst (λ (j : ℕ). ent 𝓤 (Row′ u) (H .at q (tyArray τ j) b o (vstruct (ofList l)))) m
+          (W .laws .elems-at q τ b o l)))
           (wandE 𝓤 Home (Array l) (Entry u) (allE 𝓤 (λ (v : Val). wand 𝓤 (H .at q (tyArray τ n) b o v) (mean 𝓤 H A (back v)))
           (vstruct (ofList l))))

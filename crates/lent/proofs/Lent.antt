@@ -85,8 +85,8 @@ lined d us = vstruct (vcons (vstruct (ofList us)) (vcons (vint w64 (d .waiting))
 
 pub slot-in : {M : Type 1} {𝓤 : URA M} {H : Heap 𝓤} {A : Atoms 𝓤} {K : Type 0} {W : Given 𝓤 H A} → K
     → (d : Desk) (b o k : ℕ) → k < 8 → length (d .line) ≡ 8
-    → Part K W (‵ (fat fullShare T′.mir b o (T′.lowered d))) fullShare S′.mir b (k * 24 + (o + 0)) (getD (map S′.lowered (d .line)) k
-    (S′.lowered blankOf))
+    → Part K W (‵ (fat fullShare T′.mir b o (T′.lowered d))) fullShare S′.mir b (k * 24 + (o + 0))
+    (getD (map S′.lowered (d .line)) k (S′.lowered blankOf))
     (λ u. ‵ (fat fullShare T′.mir b o (lined d (set (map S′.lowered (d .line)) k u))))
 slot-in t d b o k h e =
     let us = map S′.lowered (d .line) in
@@ -101,6 +101,6 @@ map-set [] k x = refl
 map-set (s ∷ l) zero x = refl
 map-set (s ∷ l) (suc k) x = ap (λ (us : List Val). S′.lowered s ∷ us) (map-set l k x)
 
-pub slot-put : (d : Desk) (k : ℕ) (x : Slot) → lined d (set (map S′.lowered (d .line)) k (S′.lowered x)) ≡ lined d (map S′.lowered
-    (set (d .line) k x))
+pub slot-put : (d : Desk) (k : ℕ) (x : Slot) → lined d (set (map S′.lowered (d .line)) k (S′.lowered x)) ≡ lined d
+    (map S′.lowered (set (d .line) k x))
 slot-put d k x = ap (lined d) (map-set (d .line) k x)

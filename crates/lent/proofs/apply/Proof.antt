@@ -189,11 +189,39 @@ module _ {M : Type 1} (𝓤 : URA M) (H : Heap 𝓤) (A : Atoms 𝓤) (W : Given
       counts = carried .counts;
     }
 
+  -- ---- the locals: their types, and the context of one that is empty and of one that holds a value
+
   abbrev ty : Ty → Ty
   ty τ = spell table τ
 
   abbrev word : Ty
   word = ty (tyInt w64)
+
+  abbrev flag : Ty
+  flag = ty tyBool
+
+  abbrev pointer : Ty
+  pointer = ty tyPtr
+
+  abbrev reference : Ty
+  reference = ty (tyRef (named 0) mut (tyNamed (T.struct .name, [])))
+
+  abbrev slot : Ty
+  slot = ty (tyNamed (S.struct .name, []))
+
+  abbrev change : Ty
+  change = ty (tyNamed (C.struct .name, []))
+
+  abbrev answer : Ty
+  answer = ty (tyNamed (E.struct .name, []))
+
+  abbrev idle : Ty → ℕ → List (Item 𝓤) → List (Item 𝓤)
+  idle τ l Γ = ‵ (froom τ l 0) ∷ ‵ (fdies τ l) ∷ Γ
+
+  abbrev holds : Ty → ℕ → Val → List (Item 𝓤) → List (Item 𝓤)
+  holds τ l v Γ = ‵ (fat fullShare τ l 0 v) ∷ ‵ (fdies τ l) ∷ Γ
+
+  -- ---- what a turn does
 
   -- a turn's two places are in the line
   room : (i : Upto) → Holds (ltb (i .0) (c .last)) → suc (i .0) < 8
@@ -227,78 +255,64 @@ module _ {M : Type 1} (𝓤 : URA M) (H : Heap 𝓤) (A : Atoms 𝓤) (W : Given
       ap (λ (j : ℕ). lined changed (map S′.lowered (set (turned j .line) (c .at) (c .slot)))) e
 
   abbrev En : (l₀ l₁ l₂ l₃ l₄ l₅ l₆ l₇ l₈ l₉ l₁₀ l₁₁ l₁₂ l₁₃ l₁₄ l₁₅ l₁₆ l₁₇ l₁₈ l₁₉ : ℕ) → Env 𝓤 H
-  En l₀ l₁ l₂ l₃ l₄ l₅ l₆ l₇ l₈ l₉ l₁₀ l₁₁ l₁₂ l₁₃ l₁₄ l₁₅ l₁₆ l₁₇ l₁₈ l₁₉ = ((ty (tyNamed (E.struct .name, []))), l₀) ∷ (
-    (ty (tyRef
-        (named 0) mut (tyNamed (T.struct .name, [])))),
-    l₁,
-  ) ∷ ((ty (tyNamed (C.struct .name, []))), l₂) ∷ (word, l₃) ∷ (word, l₄) ∷
-      ((ty (tyNamed (S.struct .name, []))), l₅) ∷ (word, l₆) ∷ ((ty (tyNamed (S.struct .name, []))), l₇) ∷ ((ty tyBool), l₈) ∷ (
-        (ty
-            tyBool),
-        l₉,
-      ) ∷ (word, l₁₀) ∷ (word, l₁₁) ∷ ((ty tyPtr), l₁₂) ∷ ((ty tyPtr), l₁₃) ∷ ((ty (tyNamed (S.struct .name, []))), l₁₄) ∷
-      ((ty tyPtr), l₁₅) ∷ ((ty tyPtr), l₁₆) ∷ (word, l₁₇) ∷ ((ty tyPtr), l₁₈) ∷ ((ty tyPtr), l₁₉) ∷ []
+  En l₀ l₁ l₂ l₃ l₄ l₅ l₆ l₇ l₈ l₉ l₁₀ l₁₁ l₁₂ l₁₃ l₁₄ l₁₅ l₁₆ l₁₇ l₁₈ l₁₉ = (answer, l₀) ∷ (reference, l₁) ∷ (change, l₂) ∷
+      (word, l₃) ∷ (word, l₄) ∷ (slot, l₅) ∷ (word, l₆) ∷ (slot, l₇) ∷ (flag, l₈) ∷ (flag, l₉) ∷ (word, l₁₀) ∷ (word, l₁₁) ∷
+      (pointer, l₁₂) ∷ (pointer, l₁₃) ∷ (slot, l₁₄) ∷ (pointer, l₁₅) ∷ (pointer, l₁₆) ∷ (word, l₁₇) ∷ (pointer, l₁₈) ∷ (pointer, l₁₉)
+      ∷ []
 
-  module _ (𝓣 : Tables 𝓤 H) (not-kept : Holds (not (c .kept))) (p : Parts h) (l₀ l₁ l₂ l₃ l₄ l₅ l₆ l₇ l₈ l₉ l₁₀ l₁₁ l₁₂ l₁₃ l₁₄ l₁₅
-      l₁₆ l₁₇ l₁₈ l₁₉ : ℕ) where
+  module _ (𝓣 : Tables 𝓤 H) (not-kept : Holds (not (c .kept))) (p : Parts h)
+      (l₀ l₁ l₂ l₃ l₄ l₅ l₆ l₇ l₈ l₉ l₁₀ l₁₁ l₁₂ l₁₃ l₁₄ l₁₅ l₁₆ l₁₇ l₁₈ l₁₉ : ℕ) where
     -- the context at the start of a turn
     abbrev At : Upto → List (Item 𝓤)
-    At i = ‵ (fat fullShare T′.mir b o (T′.lowered (turned (i .0)))) ∷ ‵ (fobor κ q (Body (mem T.the-row) b o (desk′ .name))) ∷ ‵
-        (fobs (desk′ .name) (T.the-row .coded .code h)) ∷ ‵ (fauth (desk′ .name) (T.the-row .coded .code h)) ∷ ‵ (froom (ty tyPtr)
-        l₁₉ 0) ∷ ‵ (fdies (ty tyPtr) l₁₉) ∷ ‵ (froom (ty tyPtr) l₁₈ 0) ∷ ‵ (fdies (ty tyPtr) l₁₈) ∷ ‵ (froom word l₁₇ 0) ∷ ‵ (fdies
-        word l₁₇) ∷ ‵ (froom (ty tyPtr) l₁₆ 0) ∷ ‵ (fdies (ty tyPtr) l₁₆) ∷ ‵ (froom (ty tyPtr) l₁₅ 0) ∷ ‵ (fdies (ty tyPtr) l₁₅) ∷ ‵
-        (froom (ty (tyNamed (S.struct .name, []))) l₁₄ 0) ∷ ‵ (fdies (ty (tyNamed (S.struct .name, []))) l₁₄) ∷ ‵ (froom (ty tyPtr)
-        l₁₃ 0) ∷ ‵ (fdies (ty tyPtr) l₁₃) ∷ ‵ (froom (ty tyPtr) l₁₂ 0) ∷ ‵ (fdies (ty tyPtr) l₁₂) ∷ ‵ (froom word l₁₁ 0) ∷ ‵ (fdies
-        word l₁₁) ∷ ‵ (froom word l₁₀ 0) ∷ ‵ (fdies word l₁₀) ∷ ‵ (froom (ty tyBool) l₉ 0) ∷ ‵ (fdies (ty tyBool) l₉) ∷ ‵ (fat
-        fullShare (ty tyBool) l₈ 0 (vbool (c .kept))) ∷ ‵ (fdies (ty tyBool) l₈) ∷ ‵ (froom (ty (tyNamed (S.struct .name, []))) l₇ 0)
-        ∷ ‵ (fdies (ty (tyNamed (S.struct .name, []))) l₇) ∷ ‵ (froom word l₆ 0) ∷ ‵ (fdies word l₆) ∷ ‵ (froom (ty (tyNamed
-        (S.struct .name, []))) l₅ 0) ∷ ‵ (fdies (ty (tyNamed (S.struct .name, []))) l₅) ∷ ‵ (fat fullShare word l₄ 0 (vint w64 (i
-        .0))) ∷ ‵ (fdies word l₄) ∷ ‵ (fat fullShare word l₃ 0 (vint w64 (c .last))) ∷ ‵ (fdies word l₃) ∷ ‵ (fat fullShare (ty
-        (tyNamed (C.struct .name, []))) l₂ 0 (C′.lowered c)) ∷ ‵ (fdies (ty (tyNamed (C.struct .name, []))) l₂) ∷ ‵ (fat fullShare
-        (ty (tyRef (named 0) mut (tyNamed (T.struct .name, [])))) l₁ 0 (vptr b o)) ∷ ‵ (fdies (ty (tyRef (named 0) mut (tyNamed
-        (T.struct .name, [])))) l₁) ∷ ‵ (froom (ty (tyNamed (E.struct .name, []))) l₀ 0) ∷ ‵ (fdies (ty (tyNamed (
-          E.struct .name,
-          [],
-        ))) l₀) ∷ ‵ ftrue ∷ []
+    At i =
+        ‵ (fat fullShare T′.mir b o (T′.lowered (turned (i .0)))) ∷ ‵ (fobor κ q (Body (mem T.the-row) b o (desk′ .name))) ∷
+        ‵ (fobs (desk′ .name) (T.the-row .coded .code h)) ∷ ‵ (fauth (desk′ .name) (T.the-row .coded .code h)) ∷
+        idle pointer l₁₉ (idle pointer l₁₈ (idle word l₁₇ (idle pointer l₁₆ (
+        idle pointer l₁₅ (idle slot l₁₄ (idle pointer l₁₃ (idle pointer l₁₂ (
+        idle word l₁₁ (idle word l₁₀ (idle flag l₉ (holds flag l₈ (vbool (c .kept)) (
+        idle slot l₇ (idle word l₆ (idle slot l₅ (holds word l₄ (vint w64 (i .0)) (
+        holds word l₃ (vint w64 (c .last)) (holds change l₂ (C′.lowered c)
+        (holds reference l₁ (vptr b o) (idle answer l₀ (‵ ftrue ∷ []))))))))))))))))))))
 
     -- a turn's postcondition: it ends nearer to the last place, or the loop is left and the rest of the body runs
     abbrev Turned : Upto → Out → SProp 𝓤
-    Turned i = afterTurn 𝓤 H (Below 𝓤 H A Nearer At i) (afterBlock 𝓤 H (afterSeq 𝓤 H (Wp 𝓤 H (𝓣 .C) (𝓣 .Λ) (En l₀ l₁ l₂ l₃ l₄ l₅ l₆
-        l₇ l₈ l₉ l₁₀ l₁₁ l₁₂ l₁₃ l₁₄ l₁₅ l₁₆ l₁₇ l₁₈ l₁₉) rest (atReturn 𝓤 H (En l₀ l₁ l₂ l₃ l₄ l₅ l₆ l₇ l₈ l₉ l₁₀ l₁₁ l₁₂ l₁₃ l₁₄
-        l₁₅ l₁₆ l₁₇ l₁₈ l₁₉) Post)) (atReturn 𝓤 H (En l₀ l₁ l₂ l₃ l₄ l₅ l₆ l₇ l₈ l₉ l₁₀ l₁₁ l₁₂ l₁₃ l₁₄ l₁₅ l₁₆ l₁₇ l₁₈ l₁₉) Post)))
+    Turned i = afterTurn 𝓤 H (Below 𝓤 H A Nearer At i)
+        (afterBlock 𝓤 H (afterSeq 𝓤 H (Wp 𝓤 H (𝓣 .C) (𝓣 .Λ)
+        (En l₀ l₁ l₂ l₃ l₄ l₅ l₆ l₇ l₈ l₉ l₁₀ l₁₁ l₁₂ l₁₃ l₁₄ l₁₅ l₁₆ l₁₇ l₁₈ l₁₉) rest
+        (atReturn 𝓤 H (En l₀ l₁ l₂ l₃ l₄ l₅ l₆ l₇ l₈ l₉ l₁₀ l₁₁ l₁₂ l₁₃ l₁₄ l₁₅ l₁₆ l₁₇ l₁₈ l₁₉) Post))
+        (atReturn 𝓤 H (En l₀ l₁ l₂ l₃ l₄ l₅ l₆ l₇ l₈ l₉ l₁₀ l₁₁ l₁₂ l₁₃ l₁₄ l₁₅ l₁₆ l₁₇ l₁₈ l₁₉) Post)))
 
     turns : (i : Upto) → Sq W (At i) (runs (𝓣 .C) (𝓣 .Λ) (En l₀ l₁ l₂ l₃ l₄ l₅ l₆ l₇ l₈ l₉ l₁₀ l₁₁ l₁₂ l₁₃ l₁₄ l₁₅ l₁₆ l₁₇ l₁₈ l₁₉)
         turn (anyQ (Turned i)))
     unfolding afterTurn
     turns i =
-        assigns ! (bin ! (load ! (from ! (stop !)) (look ! 34 refl)) (load ! (from ! (stop !)) (look ! 36 refl)) tt) (from ! (stop
-        !)) (init ! 24 refl (tt, tt)) $
+        assigns ! (bin ! (load ! (from ! (stop !)) (look ! 34 refl)) (load ! (from ! (stop !)) (look ! 36 refl)) tt)
+        (from ! (stop !)) (init ! 24 refl (tt, tt)) $
         first ! $ branches ! (load ! (from ! (stop !)) (look ! 24 refl))
-        (λ less. skips ! $ exec ! (𝓣 .C) (𝓣 .Λ) (En l₀ l₁ l₂ l₃ l₄ l₅ l₆ l₇ l₈ l₉ l₁₀ l₁₁ l₁₂ l₁₃ l₁₄ l₁₅ l₁₆ l₁₇ l₁₈ l₁₉) more (anyQ
-        (Turned i)) $
-        assigns ! (bin ! (load ! (from ! (stop !)) (look ! 34 refl)) (lit ! tt) (record { fits = omega (arith, room i less) })) (from
-        ! (stop !)) (init ! 22 refl (tt, record { fits = omega (arith, room i less) })) $
-        assigns ! (bin ! (load ! (from ! (stop !)) (look ! 22 refl)) (lit ! tt) (record { fits = omega (arith, room i less) })) (from
-        ! (stop !)) (init ! 20 refl (tt, record { fits = omega (arith, room i less) })) $
+        (λ less. skips ! $ exec ! (𝓣 .C) (𝓣 .Λ) (En l₀ l₁ l₂ l₃ l₄ l₅ l₆ l₇ l₈ l₉ l₁₀ l₁₁ l₁₂ l₁₃ l₁₄ l₁₅ l₁₆ l₁₇ l₁₈ l₁₉) more
+        (anyQ (Turned i)) $
+        assigns ! (bin ! (load ! (from ! (stop !)) (look ! 34 refl)) (lit ! tt) (record { fits = omega (arith, room i less) }))
+        (from ! (stop !)) (init ! 22 refl (tt, record { fits = omega (arith, room i less) })) $
+        assigns ! (bin ! (load ! (from ! (stop !)) (look ! 22 refl)) (lit ! tt) (record { fits = omega (arith, room i less) }))
+        (from ! (stop !)) (init ! 20 refl (tt, record { fits = omega (arith, room i less) })) $
         assigns ! (addr ! (from ! (hop ! (look ! 40 refl) (fld ! refl (stop !))))) (from ! (stop !)) (init ! 18 refl (tt, tt)) $
-        assigns ! (bin ! (load ! (from ! (stop !)) (look ! 18 refl)) (load ! (from ! (stop !)) (look ! 20 refl)) tt) (from ! (stop
-        !)) (init ! 16 refl (tt, tt)) $
-        assigns ! (of-opd ! (load ! (from ! (hop ! (look ! 16 refl) (stop !))) (look-in ! 0 (slot-in ! (turned (i .0)) b o (i .0 + 1)
-        (omega (arith, room i less)) (turned-parts p (i .0) .eight))))) (from ! (stop !)) (init ! 14 refl (subst (λ (v : Val). Holds
-        (hasTy S′.mir v) × WT v) (sym (slot-read (turned (i .0) .line) (i .0 + 1))) (slot-typed 𝓤 H A W (behind i) (behind-is p i
-        less)))) $
-        rewrite ! 14 (λ (u : Val). ‵ (fat fullShare (ty (tyNamed (S.struct .name, []))) l₁₄ 0 u)) (slot-read (turned (i .0) .line) (i
-        .0 + 1)) refl $
-        assigns ! (of-opd ! (load ! (from ! (stop !)) (look ! 14 refl))) (from ! (stop !)) (init ! 32 refl (slot-typed 𝓤 H A W
-        (behind i) (behind-is p i less))) $
-        assigns ! (bin ! (load ! (from ! (stop !)) (look ! 34 refl)) (lit ! tt) (record { fits = omega (arith, room i less) })) (from
-        ! (stop !)) (store ! 22 refl (tt, record { fits = omega (arith, room i less) })) $
+        assigns ! (bin ! (load ! (from ! (stop !)) (look ! 18 refl)) (load ! (from ! (stop !)) (look ! 20 refl)) tt)
+        (from ! (stop !)) (init ! 16 refl (tt, tt)) $
+        assigns ! (of-opd ! (load ! (from ! (hop ! (look ! 16 refl) (stop !)))
+        (look-in ! 0 (slot-in ! (turned (i .0)) b o (i .0 + 1) (omega (arith, room i less)) (turned-parts p (i .0) .eight)))))
+        (from ! (stop !)) (init ! 14 refl (subst (λ (v : Val). Holds (hasTy S′.mir v) × WT v)
+        (sym (slot-read (turned (i .0) .line) (i .0 + 1))) (slot-typed 𝓤 H A W (behind i) (behind-is p i less)))) $
+        rewrite ! 14 (λ (u : Val). ‵ (fat fullShare slot l₁₄ 0 u)) (slot-read (turned (i .0) .line) (i .0 + 1)) refl $
+        assigns ! (of-opd ! (load ! (from ! (stop !)) (look ! 14 refl))) (from ! (stop !))
+        (init ! 32 refl (slot-typed 𝓤 H A W (behind i) (behind-is p i less))) $
+        assigns ! (bin ! (load ! (from ! (stop !)) (look ! 34 refl)) (lit ! tt) (record { fits = omega (arith, room i less) }))
+        (from ! (stop !)) (store ! 22 refl (tt, record { fits = omega (arith, room i less) })) $
         assigns ! (addr ! (from ! (hop ! (look ! 40 refl) (fld ! refl (stop !))))) (from ! (stop !)) (init ! 12 refl (tt, tt)) $
-        assigns ! (bin ! (load ! (from ! (stop !)) (look ! 12 refl)) (load ! (from ! (stop !)) (look ! 22 refl)) tt) (from ! (stop
-        !)) (init ! 10 refl (tt, tt)) $
-        assigns ! (of-opd ! (load ! (from ! (stop !)) (look ! 32 refl))) (from ! (hop ! (look ! 10 refl) (stop !))) (store-in ! 0
-        (slot-in ! (turned (i .0)) b o (i .0) (omega (arith, room i less)) (turned-parts p (i .0) .eight)) (slot-typed 𝓤 H A W
-        (behind i) (behind-is p i less))) $
+        assigns ! (bin ! (load ! (from ! (stop !)) (look ! 12 refl)) (load ! (from ! (stop !)) (look ! 22 refl)) tt)
+        (from ! (stop !)) (init ! 10 refl (tt, tt)) $
+        assigns ! (of-opd ! (load ! (from ! (stop !)) (look ! 32 refl))) (from ! (hop ! (look ! 10 refl) (stop !)))
+        (store-in ! 0 (slot-in ! (turned (i .0)) b o (i .0) (omega (arith, room i less)) (turned-parts p (i .0) .eight))
+        (slot-typed 𝓤 H A W (behind i) (behind-is p i less))) $
         rewrite ! 0 (λ (u : Val). ‵ (fat fullShare T′.mir b o u)) (stepped p i less) refl $
         assigns-last ! (bin ! (load ! (from ! (stop !)) (look ! 34 refl)) (lit ! tt) (record { fits = omega (arith, room i less) }))
         (from ! (stop !)) (store ! 34 refl (tt, record { fits = omega (arith, room i less) })) $
@@ -307,36 +321,38 @@ module _ {M : Type 1} (𝓤 : URA M) (H : Heap 𝓤) (A : Atoms 𝓤) (W : Given
         again ! Nearer At i (next i less) (omega (arith, ltb→lt (i .0) (c .last) less)))
         (λ over. jumps ! $ exec ! (𝓣 .C) (𝓣 .Λ) (En l₀ l₁ l₂ l₃ l₄ l₅ l₆ l₇ l₈ l₉ l₁₀ l₁₁ l₁₂ l₁₃ l₁₄ l₁₅ l₁₆ l₁₇ l₁₈ l₁₉) rest
         (atRet (En l₀ l₁ l₂ l₃ l₄ l₅ l₆ l₇ l₈ l₉ l₁₀ l₁₁ l₁₂ l₁₃ l₁₄ l₁₅ l₁₆ l₁₇ l₁₈ l₁₉) Post) $
-        assigns ! (of-opd ! (load ! (from ! (fld ! refl (stop !))) (look-in ! 38 (sub ! 3 refl (whole !))))) (from ! (stop !)) (init
-        ! 30 refl (tt, record { fits = omega (arith, within .lies) })) $
-        assigns ! (of-opd ! (load ! (from ! (fld ! refl (stop !))) (look-in ! 38 (sub ! 4 refl (whole !))))) (from ! (stop !)) (init
-        ! 28 refl (slot-typed 𝓤 H A W (c .slot) (carried .slot))) $
+        assigns ! (of-opd ! (load ! (from ! (fld ! refl (stop !))) (look-in ! 38 (sub ! 3 refl (whole !))))) (from ! (stop !))
+        (init ! 30 refl (tt, record { fits = omega (arith, within .lies) })) $
+        assigns ! (of-opd ! (load ! (from ! (fld ! refl (stop !))) (look-in ! 38 (sub ! 4 refl (whole !))))) (from ! (stop !))
+        (init ! 28 refl (slot-typed 𝓤 H A W (c .slot) (carried .slot))) $
         assigns ! (bin ! (load ! (from ! (stop !)) (look ! 30 refl)) (lit ! tt) (record { fits = omega (arith, within .lies) }))
         (from ! (stop !)) (init ! 8 refl (tt, record { fits = omega (arith, within .lies) })) $
         assigns ! (addr ! (from ! (hop ! (look ! 40 refl) (fld ! refl (stop !))))) (from ! (stop !)) (init ! 6 refl (tt, tt)) $
         assigns ! (bin ! (load ! (from ! (stop !)) (look ! 6 refl)) (load ! (from ! (stop !)) (look ! 8 refl)) tt) (from ! (stop !))
         (init ! 4 refl (tt, tt)) $
-        assigns ! (of-opd ! (load ! (from ! (stop !)) (look ! 28 refl))) (from ! (hop ! (look ! 4 refl) (stop !))) (store-in ! 0
-        (slot-in ! (turned (i .0)) b o (c .at) (within .lies) (turned-parts p (i .0) .eight)) (slot-typed 𝓤 H A W (c .slot) (carried
-        .slot))) $
+        assigns ! (of-opd ! (load ! (from ! (stop !)) (look ! 28 refl))) (from ! (hop ! (look ! 4 refl) (stop !)))
+        (store-in ! 0 (slot-in ! (turned (i .0)) b o (c .at) (within .lies) (turned-parts p (i .0) .eight))
+        (slot-typed 𝓤 H A W (c .slot) (carried .slot))) $
         rewrite ! 0 (λ (u : Val). ‵ (fat fullShare T′.mir b o u)) (slot-put (turned (i .0)) (c .at) (c .slot)) refl $
-        assigns ! (of-opd ! (load ! (from ! (fld ! refl (stop !))) (look-in ! 38 (sub ! 5 refl (whole !))))) (from ! (hop ! (look !
-        40 refl) (fld ! refl (stop !)))) (store-in ! 0 (sub ! 1 refl (whole !)) (tt, record { fits = carried .waits })) $
-        assigns ! (of-opd ! (load ! (from ! (fld ! refl (stop !))) (look-in ! 38 (sub ! 6 refl (whole !))))) (from ! (hop ! (look !
-        40 refl) (fld ! refl (stop !)))) (store-in ! 0 (sub ! 2 refl (whole !)) (tt, record { fits = carried .counts })) $
+        assigns ! (of-opd ! (load ! (from ! (fld ! refl (stop !))) (look-in ! 38 (sub ! 5 refl (whole !)))))
+        (from ! (hop ! (look ! 40 refl) (fld ! refl (stop !))))
+        (store-in ! 0 (sub ! 1 refl (whole !)) (tt, record { fits = carried .waits })) $
+        assigns ! (of-opd ! (load ! (from ! (fld ! refl (stop !))) (look-in ! 38 (sub ! 6 refl (whole !)))))
+        (from ! (hop ! (look ! 40 refl) (fld ! refl (stop !))))
+        (store-in ! 0 (sub ! 2 refl (whole !)) (tt, record { fits = carried .counts })) $
         rewrite ! 0 (λ (u : Val). ‵ (fat fullShare T′.mir b o u)) (ended i over) refl $
-        assigns ! (of-opd ! (load ! (from ! (fld ! refl (stop !))) (look-in ! 38 (sub ! 0 refl (whole !))))) (from ! (stop !)) (init
-        ! 42 refl (answer-typed 𝓤 H A W (c .answer) _ (carried .answer))) $
+        assigns ! (of-opd ! (load ! (from ! (fld ! refl (stop !))) (look-in ! 38 (sub ! 0 refl (whole !))))) (from ! (stop !))
+        (init ! 42 refl (answer-typed 𝓤 H A W (c .answer) _ (carried .answer))) $
         desk-closes ! tt changed b o (typed-by changed (changed-parts p)) $
         returns ! (look ! 41 refl) $ forget ! 41 refl $ forget ! 39 refl $ forget ! 37 refl $ forget ! 35 refl $ forget ! 33 refl $
         forget ! 29 refl $ forget ! 27 refl $ forget ! 25 refl $ forget ! 23 refl $ forget ! 7 refl $ forget ! 5 refl $ forget ! 3
         refl $
         move ! (41 ∷ 42 ∷ []) $ free1 ! $ move ! (39 ∷ 40 ∷ []) $ free1 ! $ move ! (37 ∷ 38 ∷ []) $ free1 ! $ move ! (35 ∷ 36 ∷ []) $
-        free1 ! $ move ! (33 ∷ 34 ∷ []) $ free1 ! $ move ! (31 ∷ 32 ∷ []) $ free1 ! $ move ! (29 ∷ 30 ∷ []) $ free1 ! $ move ! (27 ∷
-        28 ∷ []) $ free1 ! $ move ! (25 ∷ 26 ∷ []) $ free1 ! $ move ! (23 ∷ 24 ∷ []) $ free1 ! $ move ! (21 ∷ 22 ∷ []) $ free1 ! $
-        move ! (19 ∷ 20 ∷ []) $ free1 ! $ move ! (17 ∷ 18 ∷ []) $ free1 ! $ move ! (15 ∷ 16 ∷ []) $ free1 ! $ move ! (13 ∷ 14 ∷ []) $
-        free1 ! $ move ! (11 ∷ 12 ∷ []) $ free1 ! $ move ! (9 ∷ 10 ∷ []) $ free1 ! $ move ! (7 ∷ 8 ∷ []) $ free1 ! $ move ! (5 ∷ 6 ∷
-        []) $ free1 ! $ move ! (3 ∷ 4 ∷ []) $ free1 ! $ free0 ! $
+        free1 ! $ move ! (33 ∷ 34 ∷ []) $ free1 ! $ move ! (31 ∷ 32 ∷ []) $ free1 ! $ move ! (29 ∷ 30 ∷ []) $ free1 ! $
+        move ! (27 ∷ 28 ∷ []) $ free1 ! $ move ! (25 ∷ 26 ∷ []) $ free1 ! $ move ! (23 ∷ 24 ∷ []) $ free1 ! $ move ! (21 ∷ 22 ∷ []) $
+        free1 ! $ move ! (19 ∷ 20 ∷ []) $ free1 ! $ move ! (17 ∷ 18 ∷ []) $ free1 ! $ move ! (15 ∷ 16 ∷ []) $ free1 ! $
+        move ! (13 ∷ 14 ∷ []) $ free1 ! $ move ! (11 ∷ 12 ∷ []) $ free1 ! $ move ! (9 ∷ 10 ∷ []) $ free1 ! $ move ! (7 ∷ 8 ∷ []) $
+        free1 ! $ move ! (5 ∷ 6 ∷ []) $ free1 ! $ move ! (3 ∷ 4 ∷ []) $ free1 ! $ free0 ! $
         by ! (exits changed (made not-kept)))
 
   module _ (𝓣 : Tables 𝓤 H) where
@@ -346,50 +362,50 @@ module _ {M : Type 1} (𝓤 : URA M) (H : Heap 𝓤) (A : Atoms 𝓤) (W : Given
         move ! (2 ∷ []) $ fsplit ! $ fsplit3 ! $ drop ! $ keep ! (0 ∷ 1 ∷ 3 ∷ 4 ∷ []) $
         -- [obs; the borrow; its token; no other token]
         enter ! (𝓣 .C) (𝓣 .Λ) code.function (vptr b o ∷ C′.lowered c ∷ []) _ $
-        alloc1 ! (λ l₀. alloc1 ! (λ l₁. alloc1 ! (λ l₂. alloc1 ! (λ l₃. alloc1 ! (λ l₄. alloc1 ! (λ l₅. alloc1 ! (λ l₆. alloc1 ! (λ
-        l₇. alloc1 ! (λ l₈. alloc1 ! (λ l₉. alloc1 ! (λ l₁₀. alloc1 ! (λ l₁₁. alloc1 ! (λ l₁₂. alloc1 ! (λ l₁₃. alloc1 ! (λ l₁₄.
-        alloc1 ! (λ l₁₅. alloc1 ! (λ l₁₆. alloc1 ! (λ l₁₇. alloc1 ! (λ l₁₈. alloc1 ! (λ l₁₉. alloc0 ! $ params1 ! $
+        alloc1 ! (λ l₀. alloc1 ! (λ l₁. alloc1 ! (λ l₂. alloc1 ! (λ l₃. alloc1 ! (λ l₄. alloc1 ! (λ l₅. alloc1 ! (λ l₆.
+        alloc1 ! (λ l₇. alloc1 ! (λ l₈. alloc1 ! (λ l₉. alloc1 ! (λ l₁₀. alloc1 ! (λ l₁₁. alloc1 ! (λ l₁₂. alloc1 ! (λ l₁₃.
+        alloc1 ! (λ l₁₄. alloc1 ! (λ l₁₅. alloc1 ! (λ l₁₆. alloc1 ! (λ l₁₇. alloc1 ! (λ l₁₈. alloc1 ! (λ l₁₉. alloc0 ! $ params1 ! $
         pass1 ! (init ! 36 refl (tt, tt)) $ pass1 ! (init ! 34 refl (change-typed 𝓤 H A W c _ c-is)) $ pass0 ! $
-        assigns ! (of-opd ! (load ! (from ! (fld ! refl (stop !))) (look-in ! 34 (sub ! 7 refl (whole !))))) (from ! (stop !)) (init
-        ! 22 refl (tt, tt)) $
+        assigns ! (of-opd ! (load ! (from ! (fld ! refl (stop !))) (look-in ! 34 (sub ! 7 refl (whole !))))) (from ! (stop !))
+        (init ! 22 refl (tt, tt)) $
         first ! $ branches ! (load ! (from ! (stop !)) (look ! 22 refl))
         (λ kept.
-        assigns ! (of-opd ! (load ! (from ! (fld ! refl (stop !))) (look-in ! 34 (sub ! 0 refl (whole !))))) (from ! (stop !)) (init
-        ! 38 refl (answer-typed 𝓤 H A W (c .answer) _ (carried .answer))) $
+        assigns ! (of-opd ! (load ! (from ! (fld ! refl (stop !))) (look-in ! 34 (sub ! 0 refl (whole !))))) (from ! (stop !))
+        (init ! 38 refl (answer-typed 𝓤 H A W (c .answer) _ (carried .answer))) $
         returns-within ! Post refl (look ! 38 refl) $ forget ! 38 refl $ forget ! 36 refl $ forget ! 34 refl $ forget ! 22 refl $
         move ! (38 ∷ 39 ∷ []) $ free1 ! $ move ! (36 ∷ 37 ∷ []) $ free1 ! $ move ! (34 ∷ 35 ∷ []) $ free1 ! $ move ! (32 ∷ 33 ∷ []) $
-        free1 ! $ move ! (30 ∷ 31 ∷ []) $ free1 ! $ move ! (28 ∷ 29 ∷ []) $ free1 ! $ move ! (26 ∷ 27 ∷ []) $ free1 ! $ move ! (24 ∷
-        25 ∷ []) $ free1 ! $ move ! (22 ∷ 23 ∷ []) $ free1 ! $ move ! (20 ∷ 21 ∷ []) $ free1 ! $ move ! (18 ∷ 19 ∷ []) $ free1 ! $
-        move ! (16 ∷ 17 ∷ []) $ free1 ! $ move ! (14 ∷ 15 ∷ []) $ free1 ! $ move ! (12 ∷ 13 ∷ []) $ free1 ! $ move ! (10 ∷ 11 ∷ []) $
-        free1 ! $ move ! (8 ∷ 9 ∷ []) $ free1 ! $ move ! (6 ∷ 7 ∷ []) $ free1 ! $ move ! (4 ∷ 5 ∷ []) $ free1 ! $ move ! (2 ∷ 3 ∷ [])
-        $ free1 ! $ move ! (0 ∷ 1 ∷ []) $ free1 ! $ free0 ! $
+        free1 ! $ move ! (30 ∷ 31 ∷ []) $ free1 ! $ move ! (28 ∷ 29 ∷ []) $ free1 ! $ move ! (26 ∷ 27 ∷ []) $ free1 ! $
+        move ! (24 ∷ 25 ∷ []) $ free1 ! $ move ! (22 ∷ 23 ∷ []) $ free1 ! $ move ! (20 ∷ 21 ∷ []) $ free1 ! $ move ! (18 ∷ 19 ∷ []) $
+        free1 ! $ move ! (16 ∷ 17 ∷ []) $ free1 ! $ move ! (14 ∷ 15 ∷ []) $ free1 ! $ move ! (12 ∷ 13 ∷ []) $ free1 ! $
+        move ! (10 ∷ 11 ∷ []) $ free1 ! $ move ! (8 ∷ 9 ∷ []) $ free1 ! $ move ! (6 ∷ 7 ∷ []) $ free1 ! $ move ! (4 ∷ 5 ∷ []) $
+        free1 ! $ move ! (2 ∷ 3 ∷ []) $ free1 ! $ move ! (0 ∷ 1 ∷ []) $ free1 ! $ free0 ! $
         by ! (exits h (same kept)))
         (λ not-kept. skips ! $ exec ! (𝓣 .C) (𝓣 .Λ) (En l₀ l₁ l₂ l₃ l₄ l₅ l₆ l₇ l₈ l₉ l₁₀ l₁₁ l₁₂ l₁₃ l₁₄ l₁₅ l₁₆ l₁₇ l₁₈ l₁₉) onward
         (atRet (En l₀ l₁ l₂ l₃ l₄ l₅ l₆ l₇ l₈ l₉ l₁₀ l₁₁ l₁₂ l₁₃ l₁₄ l₁₅ l₁₆ l₁₇ l₁₈ l₁₉) Post) $
         move ! (40 ∷ 41 ∷ 42 ∷ []) $ desk-opens ! tt h b o (λ was.
-        assigns ! (of-opd ! (load ! (from ! (fld ! refl (stop !))) (look-in ! 38 (sub ! 2 refl (whole !))))) (from ! (stop !)) (init
-        ! 36 refl (tt, record { fits = omega (arith, within .ends) })) $
-        assigns ! (of-opd ! (load ! (from ! (fld ! refl (stop !))) (look-in ! 38 (sub ! 1 refl (whole !))))) (from ! (stop !)) (init
-        ! 34 refl (tt, record { fits = omega (arith, within .ordered, within .ends) })) $
-        rewrite ! 0 (λ (l : List Slot). ‵ (fat fullShare T′.mir b o (lined h (map S′.lowered l)))) (sym (moved-none (h .line) (c
-        .first))) refl $
-        first ! $ blocks ! $ loops ! 𝓣 Nearer Nearer-wf (At 𝓣 not-kept (parts-of h was) l₀ l₁ l₂ l₃ l₄ l₅ l₆ l₇ l₈ l₉ l₁₀ l₁₁ l₁₂ l₁₃
-        l₁₄ l₁₅ l₁₆ l₁₇ l₁₈ l₁₉) (turns 𝓣 not-kept (parts-of h was) l₀ l₁ l₂ l₃ l₄ l₅ l₆ l₇ l₈ l₉ l₁₀ l₁₁ l₁₂ l₁₃ l₁₄ l₁₅ l₁₆ l₁₇ l₁₈
-        l₁₉)
+        assigns ! (of-opd ! (load ! (from ! (fld ! refl (stop !))) (look-in ! 38 (sub ! 2 refl (whole !))))) (from ! (stop !))
+        (init ! 36 refl (tt, record { fits = omega (arith, within .ends) })) $
+        assigns ! (of-opd ! (load ! (from ! (fld ! refl (stop !))) (look-in ! 38 (sub ! 1 refl (whole !))))) (from ! (stop !))
+        (init ! 34 refl (tt, record { fits = omega (arith, within .ordered, within .ends) })) $
+        rewrite ! 0 (λ (l : List Slot). ‵ (fat fullShare T′.mir b o (lined h (map S′.lowered l))))
+        (sym (moved-none (h .line) (c .first))) refl $
+        first ! $ blocks ! $ loops ! 𝓣 Nearer Nearer-wf
+        (At 𝓣 not-kept (parts-of h was) l₀ l₁ l₂ l₃ l₄ l₅ l₆ l₇ l₈ l₉ l₁₀ l₁₁ l₁₂ l₁₃ l₁₄ l₁₅ l₁₆ l₁₇ l₁₈ l₁₉)
+        (turns 𝓣 not-kept (parts-of h was) l₀ l₁ l₂ l₃ l₄ l₅ l₆ l₇ l₈ l₉ l₁₀ l₁₁ l₁₂ l₁₃ l₁₄ l₁₅ l₁₆ l₁₇ l₁₈ l₁₉)
         (c .first, omega arith, within .ordered)))))))))))))))))))))))
 
 module _ {M : Type 1} (𝓤 : URA M) (H : Heap 𝓤) (A : Atoms 𝓤) (W : Given 𝓤 H A) (at-mem : Memory → SProp 𝓤) (run : Routine → Fun 𝓤) where
   f-walks : (𝓣 : Tables 𝓤 H) → Walks 𝓤 H A f.ended stayed (WpFn 𝓤 H (𝓣 .C) (𝓣 .Λ) code.function) (f.clauses 𝓤 H A at-mem run)
   f-walks 𝓣 = walked 𝓤 H A f.ended stayed (f.clauses 𝓤 H A at-mem run) (WpFn 𝓤 H (𝓣 .C) (𝓣 .Λ) code.function)
       (λ κs. (ptr-vals, (λ c. C′.lowered c ∷ [], tt))) (λ κs. (mut-tells (named 0) (κs .0) T.the-row, (C′.lowers .val-is, tt)))
-      (λ κs qs bounds a _ are. needs 𝓤 (Within (a .1 .0)) _ (λ within. walk 𝓤 H A W at-mem run (κs .0) (qs .0) (a .0) (a .1 .0) (are
-      .1 .0) within 𝓣))
+      (λ κs qs bounds a _ are. needs 𝓤 (Within (a .1 .0)) _
+      (λ within. walk 𝓤 H A W at-mem run (κs .0) (qs .0) (a .0) (a .1 .0) (are .1 .0) within 𝓣))
 
   goes : AllGo 𝓤 H A W 1 (f.signature .params) (f.ended .kept) stayed
   goes = (goes-ref 𝓤 H A W 1 0 tt (plain (λ _. T.the-row)), (goes-dropped 𝓤 H A W 1 (plain (λ _. C.the-row)) yes (λ κs x f. refl), tt))
 
-f-meets : {M : Type 1} (𝓤 : URA M) (H : Heap 𝓤) (A : Atoms 𝓤) → Given 𝓤 H A → (at-mem : Memory → SProp 𝓤) (run : Routine → Fun 𝓤) (𝓣
-    : Tables 𝓤 H)
+f-meets : {M : Type 1} (𝓤 : URA M) (H : Heap 𝓤) (A : Atoms 𝓤) → Given 𝓤 H A → (at-mem : Memory → SProp 𝓤) (run : Routine → Fun 𝓤)
+    (𝓣 : Tables 𝓤 H)
     → Meets 𝓤 H A f.signature (WpFn 𝓤 H (𝓣 .C) (𝓣 .Λ) code.function) (f.spec 𝓤 H A at-mem run)
 f-meets 𝓤 H A W at-mem run 𝓣 = walk-meets 𝓤 H A f.ended stayed W (goes 𝓤 H A W at-mem run) (f.clauses 𝓤 H A at-mem run)
     (WpFn 𝓤 H (𝓣 .C) (𝓣 .Λ) code.function) (WpFn-mono 𝓤 H (W .laws) 𝓣 code.function) (f-walks 𝓤 H A W at-mem run 𝓣)

@@ -142,32 +142,35 @@ module _ {M : Type 1} (𝓤 : URA M) (H : Heap 𝓤) (A : Atoms 𝓤) (W : Given
         alloc1 ! (λ l₀. alloc1 ! (λ l₁. alloc1 ! (λ l₂. alloc1 ! (λ l₃. alloc1 ! (λ l₄. alloc1 ! (λ l₅. alloc0 ! $ params1 ! $
         pass1 ! (init ! 8 refl (tt, tt)) $ pass1 ! (init ! 6 refl (tt, record { fits = seat′-fits })) $ pass0 ! $
         move ! (12 ∷ 13 ∷ 14 ∷ []) $ desk-opens ! tt h b o (λ was.
-        assigns ! (of-opd ! (load ! (from ! (hop ! (look ! 12 refl) (stop !))) (look ! 0 refl))) (from ! (stop !)) (init ! 6 refl
-        (desk-typed 𝓤 H A W h was)) $
+        assigns ! (of-opd ! (load ! (from ! (hop ! (look ! 12 refl) (stop !))) (look ! 0 refl))) (from ! (stop !))
+        (init ! 6 refl (desk-typed 𝓤 H A W h was)) $
         desk-closes ! tt h b o was $
         move ! (15 ∷ 16 ∷ []) $ use2 W Have (asked was) $
-        calls-at ! fm (Core 𝓤 H A at-mem run) known to (and-then ! (load ! (from ! (stop !)) (look ! 6 refl)) (and-then ! (load !
-        (from ! (stop !)) (look ! 10 refl)) (no-more !))) (λ u.
-        use1 W (later (some (λ (r : Change). ((‵ ftrue) ⊛ ‵ (L.the-row .own r (u ∷ []))) ⊛ raw (ensured 𝓤 H A core.ended
-        (core.clauses 𝓤 H A at-mem run) tt (h, (seat′, tt)) tt r)))) (id⊢ 𝓤 _) $ await ! tt $ pick ! (λ r.
-        split ! $ move ! (1 ∷ []) $ use1 W (some (λ (ws : Unit {0} × (Unit {0} × Unit {0})). ‵ (lasts core.ended tt (h, (seat′, tt))
-        ws) ⊛ raw (fact 𝓤 (Said r)))) (id⊢ 𝓤 _) $ pick ! (λ ws.
+        calls-at ! fm (Core 𝓤 H A at-mem run) known to
+        (and-then ! (load ! (from ! (stop !)) (look ! 6 refl)) (and-then ! (load ! (from ! (stop !)) (look ! 10 refl)) (no-more !)))
+        (λ u.
+        use1 W (later (some (λ (r : Change). ((‵ ftrue) ⊛ ‵ (L.the-row .own r (u ∷ []))) ⊛ raw
+        (ensured 𝓤 H A core.ended (core.clauses 𝓤 H A at-mem run) tt (h, (seat′, tt)) tt r)))) (id⊢ 𝓤 _) $ await ! tt $ pick ! (λ r.
+        split ! $ move ! (1 ∷ []) $ use1 W (some (λ (ws : Unit {0} × (Unit {0} × Unit {0})). ‵
+        (lasts core.ended tt (h, (seat′, tt)) ws) ⊛ raw (fact 𝓤 (Said r)))) (id⊢ 𝓤 _) $ pick ! (λ ws.
         split ! $ move ! (1 ∷ []) $ heard ! (Said r) (λ e. drop ! $
         split ! $ move ! (1 ∷ []) $ facts ! L.the-row (Is L.the-row) (shows 𝓤 H A L.the-row) r (u ∷ []) (λ is.
         land ! (from ! (stop !)) (init ! 8 refl (change-typed 𝓤 H A W r u is)) $
         rewrite ! 8 (λ (v : Val). ‵ (fat fullShare L′.mir l₃ 0 v)) (ap only (L′.lowers .val-is r _ is)) refl $
         assigns ! (addr ! (from ! (hop ! (look ! 12 refl) (stop !)))) (from ! (stop !)) (init ! 4 refl (tt, tt)) $
-        move ! (1 ∷ 2 ∷ 3 ∷ []) $ use3 W (Puts 𝓤 H A at-mem run κ q desk′ r) (puts 𝓤 H A at-mem run κ q desk′ r W (e .within)
-        (change-is r u is)) $
-        calls-at ! fm (Put 𝓤 H A at-mem run) known-put (to-put 𝓤 H A at-mem run κ q desk′ r) (and-then ! (load ! (from ! (stop !))
-        (look ! 2 refl)) (and-then ! (load ! (from ! (stop !)) (look ! 6 refl)) (no-more !))) (λ v.
-        use1 W (later (some (λ (a : Answer). ((‵ (flft κ q) ⊛ ‵ ftrue) ⊛ ‵ (E.the-row .own a (v ∷ []))) ⊛ raw (ensured 𝓤 H A
-        put.ended (put.clauses 𝓤 H A at-mem run) (κ, tt) (desk′, (r, tt)) tt a)))) (id⊢ 𝓤 _) $ await ! tt $ pick ! (λ a.
-        split ! $ move ! (1 ∷ []) $ use1 W (some (λ (ds : Desk × (Unit {0} × Unit {0})). ‵ (lasts put.ended (κ, tt) (desk′, (r, tt))
-        ds) ⊛ raw (fact 𝓤 (found a (ds .0) ≡ calledBy r h)))) (id⊢ 𝓤 _) $ pick ! (λ ds.
+        move ! (1 ∷ 2 ∷ 3 ∷ []) $ use3 W (Puts 𝓤 H A at-mem run κ q desk′ r)
+        (puts 𝓤 H A at-mem run κ q desk′ r W (e .within) (change-is r u is)) $
+        calls-at ! fm (Put 𝓤 H A at-mem run) known-put (to-put 𝓤 H A at-mem run κ q desk′ r)
+        (and-then ! (load ! (from ! (stop !)) (look ! 2 refl)) (and-then ! (load ! (from ! (stop !)) (look ! 6 refl)) (no-more !)))
+        (λ v.
+        use1 W (later (some (λ (a : Answer). ((‵ (flft κ q) ⊛ ‵ ftrue) ⊛ ‵ (E.the-row .own a (v ∷ []))) ⊛ raw
+        (ensured 𝓤 H A put.ended (put.clauses 𝓤 H A at-mem run) (κ, tt) (desk′, (r, tt)) tt a)))) (id⊢ 𝓤 _) $ await ! tt $
+        pick ! (λ a.
+        split ! $ move ! (1 ∷ []) $ use1 W (some (λ (ds : Desk × (Unit {0} × Unit {0})). ‵
+        (lasts put.ended (κ, tt) (desk′, (r, tt)) ds) ⊛ raw (fact 𝓤 (found a (ds .0) ≡ calledBy r h)))) (id⊢ 𝓤 _) $ pick ! (λ ds.
         split ! $ move ! (1 ∷ []) $ heard ! (found a (ds .0) ≡ calledBy r h) (λ same. fsplit ! $ move ! (1 ∷ []) $ drop ! $
-        move ! (1 ∷ []) $ split ! $ move ! (1 ∷ []) $ facts ! E.the-row (Is E.the-row) (shows 𝓤 H A E.the-row) a (v ∷ []) (λ told.
-        split ! $ move ! (1 ∷ []) $ drop ! $
+        move ! (1 ∷ []) $ split ! $ move ! (1 ∷ []) $ facts ! E.the-row (Is E.the-row) (shows 𝓤 H A E.the-row) a (v ∷ [])
+        (λ told. split ! $ move ! (1 ∷ []) $ drop ! $
         land ! (from ! (stop !)) (init ! 13 refl (answer-typed 𝓤 H A W a v told)) $
         returns ! (look ! 13 refl) $ forget ! 13 refl $ forget ! 11 refl $ forget ! 9 refl $ forget ! 7 refl $ forget ! 5 refl $
         forget ! 3 refl $
@@ -187,8 +190,8 @@ module _ {M : Type 1} (𝓤 : URA M) (H : Heap 𝓤) (A : Atoms 𝓤) (W : Given
   goes : AllGo 𝓤 H A W 1 (f.signature .params) (f.ended .kept) stayed
   goes = (goes-gave-ref 𝓤 H A W 1 0 tt (plain (λ _. T.the-row)), (goes-dropped 𝓤 H A W 1 (plain (λ _. u8)) yes (λ κs x f. refl), tt))
 
-f-meets : {M : Type 1} (𝓤 : URA M) (H : Heap 𝓤) (A : Atoms 𝓤) → Given 𝓤 H A → (at-mem : Memory → SProp 𝓤) (run : Routine → Fun 𝓤) (𝓣
-    : Tables 𝓤 H)
+f-meets : {M : Type 1} (𝓤 : URA M) (H : Heap 𝓤) (A : Atoms 𝓤) → Given 𝓤 H A → (at-mem : Memory → SProp 𝓤) (run : Routine → Fun 𝓤)
+    (𝓣 : Tables 𝓤 H)
     → Triple 𝓤 (𝓣 .C #core) (Core 𝓤 H A at-mem run) → Triple 𝓤 (𝓣 .C #put) (Put 𝓤 H A at-mem run)
     → Meets 𝓤 H A f.signature (WpFn 𝓤 H (𝓣 .C) (𝓣 .Λ) code.function) (f.spec 𝓤 H A at-mem run)
 f-meets 𝓤 H A W at-mem run 𝓣 known known-put = walk-meets 𝓤 H A f.ended stayed W (goes 𝓤 H A W at-mem run) (f.clauses 𝓤 H A at-mem run)
@@ -201,6 +204,6 @@ leave-spec 𝓤 H 𝓜 𝓖 𝓡 =
     reached 𝓤 H (tripleOf 𝓤 H (𝓖 .A) f.signature (f.spec 𝓤 H (𝓖 .A) (𝓜 .mem) (𝓡 .run)))
     (tables 𝓤 H 𝓜 𝓡 code.env .C) (tables 𝓤 H 𝓜 𝓡 code.env .Λ) #self code.function (code.unfolded 𝓤 H 𝓜 𝓡)
     (f-meets 𝓤 H (𝓖 .A) (givenOf 𝓤 H 𝓜 𝓖) (𝓜 .mem) (𝓡 .run) (tablesOf 𝓤 H 𝓜 (tables 𝓤 H 𝓜 𝓡 code.env))
-    (cited 𝓤 H (Core 𝓤 H (𝓖 .A) (𝓜 .mem) (𝓡 .run)) 𝓜 𝓡 code.env #core core-def.routine code.calls-desk·Desk·leaving (core-thm.met 𝓤 H
-    𝓜 𝓖 𝓡))
+    (cited 𝓤 H (Core 𝓤 H (𝓖 .A) (𝓜 .mem) (𝓡 .run)) 𝓜 𝓡 code.env #core core-def.routine code.calls-desk·Desk·leaving
+    (core-thm.met 𝓤 H 𝓜 𝓖 𝓡))
     (cited 𝓤 H (Put 𝓤 H (𝓖 .A) (𝓜 .mem) (𝓡 .run)) 𝓜 𝓡 code.env #put put-def.routine code.calls-lent·apply (put-thm.met 𝓤 H 𝓜 𝓖 𝓡)))

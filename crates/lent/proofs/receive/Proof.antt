@@ -81,8 +81,7 @@ stayed = (
   (
     stay-dropped (plain (λ _. u8)) yes,
     (
-      stay-dropped (shrSliceOf (1 ∷ []) tt
-          (plain (λ _. u8))) yes,
+      stay-dropped (shrSliceOf (1 ∷ []) tt (plain (λ _. u8))) yes,
       (gave-slice (2 ∷ []) tt (plain (λ _. u8)), tt),
     ),
   ),
@@ -115,11 +114,7 @@ module _ {M : Type 1} (𝓤 : URA M) (H : Heap 𝓤) (A : Atoms 𝓤) (W : Given
       vint w8 seat′ ∷ [],
       (
         sliceVal (reply′ .ptr) (length (reply′ .now)) ∷ [],
-        (
-          sliceVal (buffer′ .ptr) (length
-              (buffer′ .now)) ∷ [],
-          tt,
-        ),
+        (sliceVal (buffer′ .ptr) (length (buffer′ .now)) ∷ [], tt),
       ),
     ),
   )
@@ -137,29 +132,24 @@ module _ {M : Type 1} (𝓤 : URA M) (H : Heap 𝓤) (A : Atoms 𝓤) (W : Given
 
   abbrev Passed : Item 𝓤
   Passed = ‵ (owns (u8 ∷ ShrSlice (named 1) κ₁ u8 ∷ MutSlice (named 2) κ₂ u8 ∷ []) (seat′, (reply′, (buffer′, tt))) (
-    vint w8 seat′ ∷
-        [],
-    (sliceVal (reply′ .ptr) (length (reply′ .now)) ∷ [], (sliceVal (buffer′ .ptr) (length (buffer′ .now)) ∷ [], tt)),
+    vint w8 seat′ ∷ [],
+    (
+      sliceVal (reply′ .ptr) (length (reply′ .now)) ∷ [],
+      (sliceVal (buffer′ .ptr) (length (buffer′ .now)) ∷ [], tt),
+    ),
   ))
 
   exits : (a : Answer) (v : Val) (d : Desk) (buffer-last : List ℕ) → GivesLent h (Call.receive seat′ (reply′ .now, buffer′ .now))
       (found a d) (buffer′ .now) buffer-last → length buffer-last ≡ length (buffer′ .now) → Is E.the-row a (v ∷ [])
-      → ent 𝓤 (⋆ 𝓤 H A (‵ (fres (desk′ .name) (T.the-row .coded .code d)) ∷ ‵ (flft κ q) ∷ Tokens ∷ ‵ (finally u8 (buffer′ .name)
-      buffer-last) ∷ [])) (Post v)
+      → ent 𝓤 (⋆ 𝓤 H A (‵ (fres (desk′ .name) (T.the-row .coded .code d)) ∷ ‵ (flft κ q) ∷ Tokens ∷ ‵
+      (finally u8 (buffer′ .name) buffer-last) ∷ [])) (Post v)
   exits a v d buffer-last e buffer-long is =
       qed W (‵ (fres (desk′ .name) (T.the-row .coded .code d)) ∷ ‵ (flft κ q) ∷ Tokens ∷ ‵ (finally u8 (buffer′ .name) buffer-last) ∷ []) ∵
-      suffices ! _ (ends-at 𝓤 H A f.ended stayed (f.clauses 𝓤 H A at-mem run) W (
-        (
-          (κ, (κ₁, (κ₂, tt))),
-          (q, (q₁, (q₂, tt))),
-          tt,
-          x,
-          at,
-        ),
-        tt,
-      ) v a (d, (tt, (tt, (buffer-last, tt)))) (tt, (tt, (tt, (buffer-long, tt))))) $ says ! e $
-      move ! (1 ∷ 2 ∷ []) $ join ! $ frame ! $ nothing ! $ move ! (2 ∷ 0 ∷ []) $ fjoin ! $ nothing ! $ fjoin ! $ nothing ! $ fjoin !
-      $ move ! (1 ∷ 0 ∷ []) $ fjoin ! $
+      suffices ! _ (ends-at 𝓤 H A f.ended stayed (f.clauses 𝓤 H A at-mem run) W
+      (((κ, (κ₁, (κ₂, tt))), (q, (q₁, (q₂, tt))), tt, x, at), tt) v a (d, (tt, (tt, (buffer-last, tt))))
+      (tt, (tt, (tt, (buffer-long, tt))))) $ says ! e $
+      move ! (1 ∷ 2 ∷ []) $ join ! $ frame ! $ nothing ! $ move ! (2 ∷ 0 ∷ []) $ fjoin ! $ nothing ! $ fjoin ! $ nothing ! $
+      fjoin ! $ move ! (1 ∷ 0 ∷ []) $ fjoin ! $
       owned ! E.the-row (Is E.the-row) (LL.makes E.the-type E′.the-plain 𝓤 H A) a _ is $ move ! (1 ∷ 0 ∷ []) $ done !
 
   -- what the contract of the desk by value binds outside, and that the caller has what it asks: the desk is plain, and is had for nothing
@@ -174,7 +164,10 @@ module _ {M : Type 1} (𝓤 : URA M) (H : Heap 𝓤) (A : Atoms 𝓤) (W : Given
         T′.lowered h ∷ [],
         (
           vint w8 seat′ ∷ [],
-          (sliceVal (reply′ .ptr) (length (reply′ .now)) ∷ [], (sliceVal (buffer′ .ptr) (length (buffer′ .now)) ∷ [], tt)),
+          (
+            sliceVal (reply′ .ptr) (length (reply′ .now)) ∷ [],
+            (sliceVal (buffer′ .ptr) (length (buffer′ .now)) ∷ [], tt),
+          ),
         ),
       ),
     ),
@@ -190,101 +183,84 @@ module _ {M : Type 1} (𝓤 : URA M) (H : Heap 𝓤) (A : Atoms 𝓤) (W : Given
 
   module _ (C : Calls 𝓤 H) (Λ : Loops 𝓤 H) (fm : FmC 𝓤 H (W .laws) C) (known : Triple 𝓤 (C #core) (Core 𝓤 H A at-mem run))
       (known-put : Triple 𝓤 (C #put) (Put 𝓤 H A at-mem run)) where
-    walk : ent 𝓤 (onEntry 𝓤 H A f.signature (κ, (κ₁, (κ₂, tt))) (q, (q₁, (q₂, tt))) x at) (WpFn 𝓤 H C Λ code.function (vptr b o ∷
-        vint w8 seat′ ∷ sliceVal (reply′ .ptr) (length (reply′ .now)) ∷ sliceVal (buffer′ .ptr) (length (buffer′ .now)) ∷ []) Post)
+    walk : ent 𝓤 (onEntry 𝓤 H A f.signature (κ, (κ₁, (κ₂, tt))) (q, (q₁, (q₂, tt))) x at)
+        (WpFn 𝓤 H C Λ code.function (vptr b o ∷ vint w8 seat′ ∷ sliceVal (reply′ .ptr) (length (reply′ .now)) ∷ sliceVal
+        (buffer′ .ptr) (length (buffer′ .now)) ∷ []) Post)
     walk =
-        qed W ((‵ (flft κ q) ⊛ (‵ (flft κ₁ q₁) ⊛ (‵ (flft κ₂ q₂) ⊛ ‵ ftrue))) ∷ ‵ (owns (MutRef (named 0) κ T.the-row ∷ u8 ∷ ShrSlice
-        (named 1) κ₁ u8 ∷ MutSlice (named 2) κ₂ u8 ∷ []) x at) ∷ []) ∵ split ! $
+        qed W ((‵ (flft κ q) ⊛ (‵ (flft κ₁ q₁) ⊛ (‵ (flft κ₂ q₂) ⊛ ‵ ftrue))) ∷ ‵
+        (owns (MutRef (named 0) κ T.the-row ∷ u8 ∷ ShrSlice (named 1) κ₁ u8 ∷ MutSlice (named 2) κ₂ u8 ∷ []) x at) ∷ []) ∵ split ! $
         move ! (2 ∷ []) $ fsplit ! $ fsplit3 ! $ drop ! $ move ! (0 ∷ 1 ∷ 3 ∷ 4 ∷ 2 ∷ []) $
         -- [obs; the borrow; its token; the slices' tokens; what the other parameters own]
         enter ! C Λ code.function (vptr b o ∷ vint w8 seat′ ∷ sliceVal (reply′ .ptr) (length (reply′ .now)) ∷ sliceVal (buffer′ .ptr)
         (length (buffer′ .now)) ∷ []) _ $
-        alloc1 ! (λ l₀. alloc1 ! (λ l₁. alloc1 ! (λ l₂. alloc1 ! (λ l₃. alloc1 ! (λ l₄. alloc1 ! (λ l₅. alloc1 ! (λ l₆. alloc1 ! (λ
-        l₇. alloc1 ! (λ l₈. alloc1 ! (λ l₉. alloc0 ! $ params1 ! $
-        pass1 ! (init ! 16 refl (tt, tt)) $ pass1 ! (init ! 14 refl (tt, record { fits = seat′-fits })) $ pass1 ! (init ! 12 refl
-        (tt, (tt, (record { fits = reply′-room .0 }, tt)))) $ pass1 ! (init ! 10 refl (
-          tt,
-          (
-            tt,
-            (
-              record { fits = buffer′-room .0 },
-              tt,
-            ),
-          ),
-        )) $ pass0 ! $
+        alloc1 ! (λ l₀. alloc1 ! (λ l₁. alloc1 ! (λ l₂. alloc1 ! (λ l₃. alloc1 ! (λ l₄. alloc1 ! (λ l₅. alloc1 ! (λ l₆.
+        alloc1 ! (λ l₇. alloc1 ! (λ l₈. alloc1 ! (λ l₉. alloc0 ! $ params1 ! $
+        pass1 ! (init ! 16 refl (tt, tt)) $ pass1 ! (init ! 14 refl (tt, record { fits = seat′-fits })) $
+        pass1 ! (init ! 12 refl (tt, (tt, (record { fits = reply′-room .0 }, tt)))) $
+        pass1 ! (init ! 10 refl (tt, (tt, (record { fits = buffer′-room .0 }, tt)))) $ pass0 ! $
         move ! (20 ∷ 21 ∷ 22 ∷ []) $ desk-opens ! tt h b o (λ was.
-        assigns ! (of-opd ! (load ! (from ! (hop ! (look ! 20 refl) (stop !))) (look ! 0 refl))) (from ! (stop !)) (init ! 10 refl
-        (desk-typed 𝓤 H A W h was)) $
+        assigns ! (of-opd ! (load ! (from ! (hop ! (look ! 20 refl) (stop !))) (look ! 0 refl))) (from ! (stop !))
+        (init ! 10 refl (desk-typed 𝓤 H A W h was)) $
         desk-closes ! tt h b o was $
-        assigns ! (addr ! (from ! (fld ! refl (hop ! (look-in ! 13 (sub ! 0 refl (whole !))) (stop !))))) (from ! (stop !)) (init ! 7
-        refl (tt, tt)) $
-        assigns ! (agg ! (and-then ! (load ! (from ! (stop !)) (look ! 7 refl)) (and-then ! (load ! (from ! (fld ! refl (stop !)))
-        (look-in ! 13 (sub ! 1 refl (whole !)))) (no-more !)))) (from ! (stop !)) (init ! 5 refl (
-          tt,
-          (
-            tt,
-            (
-              record {
-                fits =
-                    buffer′-room .0;
-              },
-              tt,
-            ),
-          ),
-        )) $
+        assigns ! (addr ! (from ! (fld ! refl (hop ! (look-in ! 13 (sub ! 0 refl (whole !))) (stop !))))) (from ! (stop !))
+        (init ! 7 refl (tt, tt)) $
+        assigns ! (agg ! (and-then ! (load ! (from ! (stop !)) (look ! 7 refl))
+        (and-then ! (load ! (from ! (fld ! refl (stop !))) (look-in ! 13 (sub ! 1 refl (whole !)))) (no-more !)))) (from ! (stop !))
+        (init ! 5 refl (tt, (tt, (record { fits = buffer′-room .0 }, tt)))) $
         move ! (23 ∷ 24 ∷ []) $ use2 W Have (asked was) $
-        calls-at ! fm (Core 𝓤 H A at-mem run) known to (and-then ! (load ! (from ! (stop !)) (look ! 10 refl)) (and-then ! (load !
-        (from ! (stop !)) (look ! 18 refl)) (and-then ! (load ! (from ! (stop !)) (look ! 16 refl)) (and-then ! (load ! (from ! (stop
-        !)) (look ! 6 refl)) (no-more !))))) (λ u.
+        calls-at ! fm (Core 𝓤 H A at-mem run) known to
+        (and-then ! (load ! (from ! (stop !)) (look ! 10 refl))
+        (and-then ! (load ! (from ! (stop !)) (look ! 18 refl))
+        (and-then ! (load ! (from ! (stop !)) (look ! 16 refl))
+        (and-then ! (load ! (from ! (stop !)) (look ! 6 refl)) (no-more !))))) (λ u.
         use1 W (later (some (λ (r : Change). ((‵ (flft κ₁ q₁) ⊛ (‵ (flft κ₂ q₂) ⊛ ‵ ftrue)) ⊛ ‵ (L.the-row .own r (u ∷ []))) ⊛ raw
-        (ensured 𝓤 H A core.ended (core.clauses 𝓤 H A at-mem run) (κ₁, (κ₂, tt)) (h, (seat′, (reply′, (buffer′, tt)))) tt r)))) (id⊢
-        𝓤 _) $ await ! tt $ pick ! (λ r.
-        split ! $ move ! (1 ∷ []) $ use1 W (some (λ (ws : Unit {0} × (Unit {0} × (Unit {0} × (List ℕ × Unit {0})))). ‵ (lasts
-        core.ended (κ₁, (κ₂, tt)) (h, (seat′, (reply′, (buffer′, tt)))) ws) ⊛ raw (fact 𝓤 (Said r (ws .1 .1 .1 .0))))) (id⊢ 𝓤 _) $
-        pick ! (λ ws.
-        split ! $ move ! (1 ∷ []) $ heard ! (Said r (ws .1 .1 .1 .0)) (λ e. fsplit ! $ drop ! $ fsplit ! $ drop ! $ fsplit ! $ drop !
-        $ fsplit ! $ fsplit ! $ move ! (1 ∷ []) $ feqL ! (λ buffer-long. move ! (1 ∷ []) $ drop ! $
+        (ensured 𝓤 H A core.ended (core.clauses 𝓤 H A at-mem run) (κ₁, (κ₂, tt)) (h, (seat′, (reply′, (buffer′, tt)))) tt r))))
+        (id⊢ 𝓤 _) $ await ! tt $ pick ! (λ r.
+        split ! $ move ! (1 ∷ []) $ use1 W (some (λ (ws : Unit {0} × (Unit {0} × (Unit {0} × (List ℕ × Unit {0})))). ‵
+        (lasts core.ended (κ₁, (κ₂, tt)) (h, (seat′, (reply′, (buffer′, tt)))) ws) ⊛ raw (fact 𝓤 (Said r (ws .1 .1 .1 .0)))))
+        (id⊢ 𝓤 _) $ pick ! (λ ws.
+        split ! $ move ! (1 ∷ []) $ heard ! (Said r (ws .1 .1 .1 .0))
+        (λ e. fsplit ! $ drop ! $ fsplit ! $ drop ! $ fsplit ! $ drop ! $ fsplit ! $ fsplit ! $ move ! (1 ∷ []) $
+        feqL ! (λ buffer-long. move ! (1 ∷ []) $ drop ! $
         move ! (1 ∷ []) $ split ! $ move ! (1 ∷ []) $ facts ! L.the-row (Is L.the-row) (shows 𝓤 H A L.the-row) r (u ∷ []) (λ is.
         land ! (from ! (stop !)) (init ! 13 refl (change-typed 𝓤 H A W r u is)) $
         rewrite ! 13 (λ (v : Val). ‵ (fat fullShare L′.mir l₅ 0 v)) (ap only (L′.lowers .val-is r _ is)) refl $
         assigns ! (addr ! (from ! (hop ! (look ! 21 refl) (stop !)))) (from ! (stop !)) (init ! 5 refl (tt, tt)) $
-        move ! (2 ∷ 3 ∷ 4 ∷ []) $ use3 W (Puts 𝓤 H A at-mem run κ q desk′ r) (puts 𝓤 H A at-mem run κ q desk′ r W (e .changes
-        .within) (change-is r u is)) $
-        calls-at ! fm (Put 𝓤 H A at-mem run) known-put (to-put 𝓤 H A at-mem run κ q desk′ r) (and-then ! (load ! (from ! (stop !))
-        (look ! 3 refl)) (and-then ! (load ! (from ! (stop !)) (look ! 11 refl)) (no-more !))) (λ v.
-        use1 W (later (some (λ (a : Answer). ((‵ (flft κ q) ⊛ ‵ ftrue) ⊛ ‵ (E.the-row .own a (v ∷ []))) ⊛ raw (ensured 𝓤 H A
-        put.ended (put.clauses 𝓤 H A at-mem run) (κ, tt) (desk′, (r, tt)) tt a)))) (id⊢ 𝓤 _) $ await ! tt $ pick ! (λ a.
-        split ! $ move ! (1 ∷ []) $ use1 W (some (λ (ds : Desk × (Unit {0} × Unit {0})). ‵ (lasts put.ended (κ, tt) (desk′, (r, tt))
-        ds) ⊛ raw (fact 𝓤 (found a (ds .0) ≡ calledBy r h)))) (id⊢ 𝓤 _) $ pick ! (λ ds.
+        move ! (2 ∷ 3 ∷ 4 ∷ []) $ use3 W (Puts 𝓤 H A at-mem run κ q desk′ r)
+        (puts 𝓤 H A at-mem run κ q desk′ r W (e .changes .within) (change-is r u is)) $
+        calls-at ! fm (Put 𝓤 H A at-mem run) known-put (to-put 𝓤 H A at-mem run κ q desk′ r)
+        (and-then ! (load ! (from ! (stop !)) (look ! 3 refl)) (and-then ! (load ! (from ! (stop !)) (look ! 11 refl)) (no-more !)))
+        (λ v.
+        use1 W (later (some (λ (a : Answer). ((‵ (flft κ q) ⊛ ‵ ftrue) ⊛ ‵ (E.the-row .own a (v ∷ []))) ⊛ raw
+        (ensured 𝓤 H A put.ended (put.clauses 𝓤 H A at-mem run) (κ, tt) (desk′, (r, tt)) tt a)))) (id⊢ 𝓤 _) $ await ! tt $
+        pick ! (λ a.
+        split ! $ move ! (1 ∷ []) $ use1 W (some (λ (ds : Desk × (Unit {0} × Unit {0})). ‵
+        (lasts put.ended (κ, tt) (desk′, (r, tt)) ds) ⊛ raw (fact 𝓤 (found a (ds .0) ≡ calledBy r h)))) (id⊢ 𝓤 _) $ pick ! (λ ds.
         split ! $ move ! (1 ∷ []) $ heard ! (found a (ds .0) ≡ calledBy r h) (λ same. fsplit ! $ move ! (1 ∷ []) $ drop ! $
-        move ! (1 ∷ []) $ split ! $ move ! (1 ∷ []) $ facts ! E.the-row (Is E.the-row) (shows 𝓤 H A E.the-row) a (v ∷ []) (λ told.
-        split ! $ move ! (1 ∷ []) $ drop ! $
+        move ! (1 ∷ []) $ split ! $ move ! (1 ∷ []) $ facts ! E.the-row (Is E.the-row) (shows 𝓤 H A E.the-row) a (v ∷ [])
+        (λ told. split ! $ move ! (1 ∷ []) $ drop ! $
         land ! (from ! (stop !)) (init ! 22 refl (answer-typed 𝓤 H A W a v told)) $
         returns ! (look ! 22 refl) $ forget ! 22 refl $ forget ! 20 refl $ forget ! 18 refl $ forget ! 16 refl $ forget ! 14 refl $
         forget ! 12 refl $ forget ! 10 refl $ forget ! 8 refl $ forget ! 6 refl $ forget ! 4 refl $
         move ! (22 ∷ 23 ∷ []) $ free1 ! $ move ! (20 ∷ 21 ∷ []) $ free1 ! $ move ! (18 ∷ 19 ∷ []) $ free1 ! $ move ! (16 ∷ 17 ∷ []) $
-        free1 ! $ move ! (14 ∷ 15 ∷ []) $ free1 ! $ move ! (12 ∷ 13 ∷ []) $ free1 ! $ move ! (10 ∷ 11 ∷ []) $ free1 ! $ move ! (8 ∷ 9
-        ∷ []) $ free1 ! $ move ! (6 ∷ 7 ∷ []) $ free1 ! $ move ! (4 ∷ 5 ∷ []) $ free1 ! $ free0 ! $
-        keep ! (1 ∷ 0 ∷ 2 ∷ 3 ∷ []) $ by ! (exits a v (ds .0) (ws .1 .1 .1 .0) (gives-lent h made (Call.receive seat′ (
-          reply′ .now,
-          buffer′ .now,
-        )) (found a (ds .0)) (same ∙ e .changes .makes) (buffer′ .now) (ws .1 .1 .1 .0) (e .lent)) buffer-long
-        told)))))))))))))))))))))))
+        free1 ! $ move ! (14 ∷ 15 ∷ []) $ free1 ! $ move ! (12 ∷ 13 ∷ []) $ free1 ! $ move ! (10 ∷ 11 ∷ []) $ free1 ! $
+        move ! (8 ∷ 9 ∷ []) $ free1 ! $ move ! (6 ∷ 7 ∷ []) $ free1 ! $ move ! (4 ∷ 5 ∷ []) $ free1 ! $ free0 ! $
+        keep ! (1 ∷ 0 ∷ 2 ∷ 3 ∷ []) $ by ! (exits a v (ds .0) (ws .1 .1 .1 .0)
+        (gives-lent h made (Call.receive seat′ (reply′ .now, buffer′ .now)) (found a (ds .0)) (same ∙ e .changes .makes)
+        (buffer′ .now) (ws .1 .1 .1 .0) (e .lent)) buffer-long told)))))))))))))))))))))))
 
 module _ {M : Type 1} (𝓤 : URA M) (H : Heap 𝓤) (A : Atoms 𝓤) (W : Given 𝓤 H A) (at-mem : Memory → SProp 𝓤) (run : Routine → Fun 𝓤) where
   f-walks : (C : Calls 𝓤 H) (Λ : Loops 𝓤 H) → FmC 𝓤 H (W .laws) C → Triple 𝓤 (C #core) (Core 𝓤 H A at-mem run)
       → Triple 𝓤 (C #put) (Put 𝓤 H A at-mem run) → Walks 𝓤 H A f.ended stayed (WpFn 𝓤 H C Λ code.function) (f.clauses 𝓤 H A at-mem run)
   f-walks C Λ fm known known-put = walked 𝓤 H A f.ended stayed (f.clauses 𝓤 H A at-mem run) (WpFn 𝓤 H C Λ code.function)
-      (λ κs. (ptr-vals, (uint-vals w8, (slice-vals, (slice-vals, tt))))) (λ κs. (
+      (λ κs. (ptr-vals, (uint-vals w8, (slice-vals, (slice-vals, tt)))))
+      (λ κs. (
         mut-tells (named 0) (κs .0) T.the-row,
-        (
-          uint-tells
-              w8,
-          (shr-slice-tells (named 1) (κs .1 .0) u8, (mut-slice-tells (named 2) (κs .1 .1 .0) u8, tt)),
-        ),
+        (uint-tells w8, (shr-slice-tells (named 1) (κs .1 .0) u8, (mut-slice-tells (named 2) (κs .1 .1 .0) u8, tt))),
       ))
-      (λ κs qs bounds a _ are. needs 𝓤 (Good (a .0 .now)) _ (λ made. walk 𝓤 H A W at-mem run (κs .0) (κs .1 .0) (κs .1 .1 .0) (qs .0)
-      (qs .1 .0) (qs .1 .1 .0) (a .0) (a .1 .0) (a .1 .1 .0) (a .1 .1 .1 .0)
+      (λ κs qs bounds a _ are. needs 𝓤 (Good (a .0 .now)) _
+      (λ made. walk 𝓤 H A W at-mem run (κs .0) (κs .1 .0) (κs .1 .1 .0) (qs .0) (qs .1 .0) (qs .1 .1 .0) (a .0) (a .1 .0)
+      (a .1 .1 .0) (a .1 .1 .1 .0)
       (are .1 .0 .1) (are .1 .1 .0 .0 .1) (are .1 .1 .1 .0 .0 .1) made C Λ fm known known-put))
 
   goes : AllGo 𝓤 H A W 3 (f.signature .params) (f.ended .kept) stayed
@@ -294,17 +270,13 @@ module _ {M : Type 1} (𝓤 : URA M) (H : Heap 𝓤) (A : Atoms 𝓤) (W : Given
       goes-dropped 𝓤 H A W 3 (plain (λ _. u8)) yes (λ κs x f. refl),
       (
         goes-dropped 𝓤 H A W 3 (shrSliceOf (1 ∷ []) tt (plain (λ _. u8))) yes (λ κs x f. refl),
-        (
-          goes-gave-slice 𝓤 H A W 3 2 tt (plain
-              (λ _. u8)),
-          tt,
-        ),
+        (goes-gave-slice 𝓤 H A W 3 2 tt (plain (λ _. u8)), tt),
       ),
     ),
   )
 
-f-meets : {M : Type 1} (𝓤 : URA M) (H : Heap 𝓤) (A : Atoms 𝓤) → Given 𝓤 H A → (at-mem : Memory → SProp 𝓤) (run : Routine → Fun 𝓤) (𝓣
-    : Tables 𝓤 H)
+f-meets : {M : Type 1} (𝓤 : URA M) (H : Heap 𝓤) (A : Atoms 𝓤) → Given 𝓤 H A → (at-mem : Memory → SProp 𝓤) (run : Routine → Fun 𝓤)
+    (𝓣 : Tables 𝓤 H)
     → Triple 𝓤 (𝓣 .C #core) (Core 𝓤 H A at-mem run) → Triple 𝓤 (𝓣 .C #put) (Put 𝓤 H A at-mem run)
     → Meets 𝓤 H A f.signature (WpFn 𝓤 H (𝓣 .C) (𝓣 .Λ) code.function) (f.spec 𝓤 H A at-mem run)
 f-meets 𝓤 H A W at-mem run 𝓣 known known-put = walk-meets 𝓤 H A f.ended stayed W (goes 𝓤 H A W at-mem run) (f.clauses 𝓤 H A at-mem run)
@@ -317,6 +289,6 @@ receive-spec 𝓤 H 𝓜 𝓖 𝓡 =
     reached 𝓤 H (tripleOf 𝓤 H (𝓖 .A) f.signature (f.spec 𝓤 H (𝓖 .A) (𝓜 .mem) (𝓡 .run)))
     (tables 𝓤 H 𝓜 𝓡 code.env .C) (tables 𝓤 H 𝓜 𝓡 code.env .Λ) #self code.function (code.unfolded 𝓤 H 𝓜 𝓡)
     (f-meets 𝓤 H (𝓖 .A) (givenOf 𝓤 H 𝓜 𝓖) (𝓜 .mem) (𝓡 .run) (tablesOf 𝓤 H 𝓜 (tables 𝓤 H 𝓜 𝓡 code.env))
-    (cited 𝓤 H (Core 𝓤 H (𝓖 .A) (𝓜 .mem) (𝓡 .run)) 𝓜 𝓡 code.env #core core-def.routine code.calls-desk·Desk·receiving (core-thm.met 𝓤
-    H 𝓜 𝓖 𝓡))
+    (cited 𝓤 H (Core 𝓤 H (𝓖 .A) (𝓜 .mem) (𝓡 .run)) 𝓜 𝓡 code.env #core core-def.routine code.calls-desk·Desk·receiving
+    (core-thm.met 𝓤 H 𝓜 𝓖 𝓡))
     (cited 𝓤 H (Put 𝓤 H (𝓖 .A) (𝓜 .mem) (𝓡 .run)) 𝓜 𝓡 code.env #put put-def.routine code.calls-lent·apply (put-thm.met 𝓤 H 𝓜 𝓖 𝓡)))
