@@ -1,8 +1,8 @@
 -- The desk's record: what it holds, and the record that holds it. The desk itself is line's, with the CoE machine. Assumes nothing.
 use mathlib.Core.Path.{_≡_}
 use mathlib.Core.Bool.{true}
-use mathlib.Core.List.{List, [], _∷_, _++_, map}
-use Prim.Native.Nat.{ℕ, zero, suc, _-_}
+use mathlib.Core.List.{[], _∷_, _++_, map}
+use Prim.Native.Nat.{ℕ, suc, _-_}
 use lib.Dec.{eqb, ltb}
 use lib.ListN.{length, take, replicate}
 use Rattle.wire.specs.Words.{pick, within}

@@ -39,7 +39,7 @@ use Rattle.desk.proofs.change.Change as C
 use Rattle.desk.proofs.change.Change.Laws as C′
 use Rattle.judge.proofs.Answer as E
 use Rattle.judge.proofs.Answer.Laws as E′
-use Rattle.lent.proofs.Typed.{DeskIs, SlotIs, AnswerIs, ChangeIs}
+use Rattle.lent.proofs.Typed.{DeskIs, SlotIs}
 use Rattle.lent.proofs.Element.{element}
 
 module _ {M : Type 1} (𝓤 : URA M) (H : Heap 𝓤) (A : Atoms 𝓤) (W : Given 𝓤 H A) where

@@ -2,7 +2,7 @@
 use mathlib.Core.Path.{_≡_, refl, sym, ap, _∙_, subst}
 use mathlib.Core.Bool.{true, false, false≢true, true≢false}
 use mathlib.Core.List.{_++_}
-use mathlib.Core.Option.{Option, none, some, Option·none-ne-some, Option·some-inj}
+use mathlib.Core.Option.{none, some, Option·none-ne-some, Option·some-inj}
 use Prim.Native.Nat.{ℕ, suc, _%_}
 use lib.Dec.{eqb}
 use lib.ListN.{length}
