@@ -102,3 +102,13 @@ pub fn download_frame(counter: u8, index: u16, sub: u8, complete: bool, data: &[
     let request = Data::new(data).map(|data| Request::Download(Object::new(index, sub, complete), data));
     write_counted(counter, request, frame)
 }
+
+#[inline(never)]
+pub fn segment_frame(counter: u8, toggle: bool, frame: &mut [u8]) -> u8 {
+    write_counted(counter, Some(Request::Segment { toggle }), frame)
+}
+
+#[inline(never)]
+pub fn list_frame(counter: u8, kind: u16, frame: &mut [u8]) -> u8 {
+    write_counted(counter, Some(Request::List { kind }).filter(|_| kind <= 5), frame)
+}
