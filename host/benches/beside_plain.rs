@@ -21,18 +21,39 @@ fn print_row(table: &str, row: &str, archive: impl FnMut() -> f64, plain: impl F
     print_ratio(table, row, "", archive, plain);
 }
 
+/// The archive's writers, whose flags are numbers; `ffi` takes care that they are 0 or 1.
+mod archive {
+    use super::ffi;
+    pub use ffi::list_frame;
+
+    #[inline(always)]
+    pub fn upload_frame(counter: u8, index: u16, sub: u8, complete: u8, frame: &mut [u8]) -> u8 {
+        ffi::upload_frame(counter, index, sub, complete == 1, frame)
+    }
+
+    #[inline(always)]
+    pub fn download_frame(counter: u8, index: u16, sub: u8, complete: u8, data: &[u8], frame: &mut [u8]) -> u8 {
+        ffi::download_frame(counter, index, sub, complete == 1, data, frame)
+    }
+
+    #[inline(always)]
+    pub fn segment_frame(counter: u8, toggle: u8, frame: &mut [u8]) -> u8 {
+        ffi::segment_frame(counter, toggle == 1, frame)
+    }
+}
+
 fn writers() {
     for (length, into) in [(16, "16 bytes"), (1486, "1,486 bytes")] {
         macro_rules! row {
-            ($name:literal, $work:ident, $writer:ident) => {
-                let (archive, plain) = (|| works::$work(ffi::$writer, length), || works::$work(plain::$writer, length));
-                print_row("writers", &format!(concat!("`", $name, "` into {}"), into), archive, plain);
+            ($work:ident, $writer:ident) => {
+                let (archive, plain) = (|| works::$work(archive::$writer, length), || works::$work(plain::$writer, length));
+                print_row("writers", &format!(concat!("`coe_", stringify!($writer), "` into {}"), into), archive, plain);
             };
         }
-        row!("coe_upload_frame", upload, upload_frame);
-        row!("coe_download_frame", download, download_frame);
-        row!("coe_segment_frame", segment, segment_frame);
-        row!("coe_list_frame", list, list_frame);
+        row!(upload, upload_frame);
+        row!(download, download_frame);
+        row!(segment, segment_frame);
+        row!(list, list_frame);
     }
 }
 

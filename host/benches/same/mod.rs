@@ -42,24 +42,46 @@ impl Chance {
     }
 }
 
+/// Both forms of a writer's call, each with a buffer of `length` bytes.
+fn written(length: usize, archive: impl Fn(&mut [u8]) -> u8, plain: impl Fn(&mut [u8]) -> u8) {
+    let (mut left, mut right) = (vec![0xa5; length], vec![0xa5; length]);
+    assert_eq!((archive(&mut left), left), (plain(&mut right), right));
+}
+
+/// With the flags that the crate's types have. Any other is refused by the plain form too.
 fn writers() {
     for length in [0, 15, 16, 17, 1485, 1486, 1487] {
-        for (counter, complete) in (0..=9).flat_map(|counter| [(counter, false), (counter, true)]) {
-            let (mut left, mut right) = (vec![0xa5; length], vec![0xa5; length]);
-            let archive = ffi::upload_frame(counter, INDEX, SUB, complete, &mut left);
-            assert_eq!((archive, &left), (plain::upload_frame(counter, INDEX, SUB, complete, &mut right), &right));
+        for (counter, flag) in (0..=9).flat_map(|counter| [(counter, 0), (counter, 1)]) {
+            let complete = flag == 1;
+            written(
+                length,
+                |frame| ffi::upload_frame(counter, INDEX, SUB, complete, frame),
+                |frame| plain::upload_frame(counter, INDEX, SUB, flag, frame),
+            );
             for data in [&[][..], &DATA[..1], &DATA[..3], &DATA, &[0; 5]] {
-                let archive = ffi::download_frame(counter, INDEX, SUB, complete, data, &mut left);
-                assert_eq!((archive, &left), (plain::download_frame(counter, INDEX, SUB, complete, data, &mut right), &right));
+                written(
+                    length,
+                    |frame| ffi::download_frame(counter, INDEX, SUB, complete, data, frame),
+                    |frame| plain::download_frame(counter, INDEX, SUB, flag, data, frame),
+                );
             }
-            let archive = ffi::segment_frame(counter, complete, &mut left);
-            assert_eq!((archive, &left), (plain::segment_frame(counter, complete, &mut right), &right));
-            for kind in 0..=6 {
-                let archive = ffi::list_frame(counter, kind, &mut left);
-                assert_eq!((archive, &left), (plain::list_frame(counter, kind, &mut right), &right));
-            }
+            written(
+                length,
+                |frame| ffi::segment_frame(counter, complete, frame),
+                |frame| plain::segment_frame(counter, flag, frame),
+            );
+        }
+        for (counter, kind) in (0..=9).flat_map(|counter| (0..=6).map(move |kind| (counter, kind))) {
+            written(length, |frame| ffi::list_frame(counter, kind, frame), |frame| plain::list_frame(counter, kind, frame));
         }
     }
+    let frame = &mut [0; 16];
+    let refused = [
+        plain::upload_frame(1, INDEX, SUB, 2, frame),
+        plain::download_frame(1, INDEX, SUB, 2, &DATA, frame),
+        plain::segment_frame(1, 2, frame),
+    ];
+    assert_eq!((refused, *frame), ([0x15; 3], [0; 16]));
 }
 
 fn judged(kind: u8, earlier: u32, reply: &[u8], room: usize) -> u8 {

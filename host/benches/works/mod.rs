@@ -27,19 +27,19 @@ fn written(length: usize, write: impl Fn(u8, &mut [u8]) -> u8) -> f64 {
     })
 }
 
-pub fn upload(write: impl Fn(u8, u16, u8, bool, &mut [u8]) -> u8, length: usize) -> f64 {
-    let (index, sub, complete) = (opaque(INDEX), opaque(SUB), opaque(false));
+pub fn upload(write: impl Fn(u8, u16, u8, u8, &mut [u8]) -> u8, length: usize) -> f64 {
+    let (index, sub, complete) = (opaque(INDEX), opaque(SUB), opaque(0));
     written(length, |counter, frame| write(counter, index, sub, complete, frame))
 }
 
 /// With four bytes of data.
-pub fn download(write: impl Fn(u8, u16, u8, bool, &[u8], &mut [u8]) -> u8, length: usize) -> f64 {
-    let (index, sub, complete, data) = (opaque(INDEX), opaque(SUB), opaque(false), opaque(&DATA[..]));
+pub fn download(write: impl Fn(u8, u16, u8, u8, &[u8], &mut [u8]) -> u8, length: usize) -> f64 {
+    let (index, sub, complete, data) = (opaque(INDEX), opaque(SUB), opaque(0), opaque(&DATA[..]));
     written(length, |counter, frame| write(counter, index, sub, complete, data, frame))
 }
 
-pub fn segment(write: impl Fn(u8, bool, &mut [u8]) -> u8, length: usize) -> f64 {
-    let toggle = opaque(true);
+pub fn segment(write: impl Fn(u8, u8, &mut [u8]) -> u8, length: usize) -> f64 {
+    let toggle = opaque(1);
     written(length, |counter, frame| write(counter, toggle, frame))
 }
 
