@@ -1,6 +1,6 @@
-# The commands of the README: `make test`, `make run` (`make run FILE=x` runs an order file of yours), `make mutants` and
-# `make wireshark`.
-.PHONY: test run mutants wireshark
+# The commands of the README: `make test`, `make run` (`make run FILE=x` runs an order file of yours), `make mutants`, `make wireshark`
+# and `make bench`.
+.PHONY: test run mutants wireshark bench
 
 test:
 	@tools/test
@@ -14,3 +14,7 @@ mutants:
 
 wireshark:
 	@tools/wireshark/run
+
+bench:
+	@tools/build order
+	@tools/bench

@@ -97,7 +97,11 @@ fn transfers() {
     }
 }
 
+/// A difference of two works has no instructions of its own.
 fn storing() {
+    if timing::counting() {
+        return;
+    }
     print_row("storing", "storing a chunk of 1,474 bytes", || works::stored(LONGEST), || works::copied(LONGEST));
 }
 
@@ -105,10 +109,10 @@ fn storing() {
 fn growth() {
     for length in [0, 4, 7, 64, 512, LONGEST] {
         let reply = segment(&payload(length), false);
-        for room in [4, 4_096, ROOM].into_iter().filter(|room| length <= *room) {
+        for (room, n) in [(4, "4"), (4_096, "4,096"), (ROOM, "131,070")].into_iter().filter(|(room, _)| length <= *room) {
             let archive = || works::judge(ffi::judge, SEGMENT, &reply, room);
             let plain = || works::judge(plain::judge, SEGMENT, &reply, room);
-            print_ratio("growth", &length.to_string(), &format!("`coe_judge`, N {room}"), archive, plain);
+            print_ratio("growth", &length.to_string(), &format!("`coe_judge`, N {n}"), archive, plain);
         }
         for n in [1, 8] {
             let (mut lent, mut data) = (vec![0; ROOM], vec![0; ROOM]);
@@ -120,7 +124,9 @@ fn growth() {
 }
 
 fn main() {
-    same::check();
+    if !timing::counting() {
+        same::check();
+    }
     writers();
     judgements();
     storing();

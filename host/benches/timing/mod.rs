@@ -1,4 +1,8 @@
 //! Two ways to do the same work, timed by turns.
+mod counts;
+
+pub use counts::{counted, counting};
+
 use std::mem::ManuallyDrop;
 use std::ptr;
 use std::time::Instant;
@@ -14,8 +18,11 @@ pub fn opaque<T>(value: T) -> T {
     unsafe { ptr::read_volatile(&*value) }
 }
 
-/// Nanoseconds for one of so many calls.
+/// Nanoseconds for one of so many calls. Where instructions are counted, one call is made.
 pub fn each(calls: u32, mut call: impl FnMut()) -> f64 {
+    if counted(&mut call) {
+        return 0.0;
+    }
     let begun = Instant::now();
     for _ in 0..calls {
         call();
@@ -34,6 +41,11 @@ fn quantile(values: &[f64], share: f64) -> f64 {
 /// ends of the middle half of the ratios. Each round has both run, one right after the other and each the first in every other round,
 /// and takes the ratio of the two.
 pub fn print_ratio(table: &str, row: &str, column: &str, mut archive: impl FnMut() -> f64, mut plain: impl FnMut() -> f64) {
+    if counting() {
+        (archive(), plain());
+        println!("{table}\t{row}\t{column}");
+        return;
+    }
     let (mut archives, mut plains, mut ratios) = (Vec::new(), Vec::new(), Vec::new());
     for round in 0..ROUNDS {
         let (a, p);

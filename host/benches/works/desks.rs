@@ -2,7 +2,7 @@
 use super::inputs::{announcement, EXPEDITED, INDEX, SUB, UPLOAD};
 use crate::ffi::{Answer, Record};
 use crate::plain::Desk;
-use crate::timing::{each, opaque};
+use crate::timing::{counted, each, opaque};
 use std::time::{Duration, Instant};
 
 /// So many desks are brought to the call that is timed, which changes them, and then called one after the other: one call is too
@@ -81,6 +81,10 @@ fn asked_of<D: Calls>(waiting: u8) -> D {
 
 /// Nanoseconds for one call on a desk that `prepared` makes.
 fn on_each<D>(prepared: impl Fn() -> D, number: u8, mut call: impl FnMut(&mut D) -> Answer) -> f64 {
+    let mut desk = prepared();
+    if counted(&mut || assert_eq!(call(&mut desk).number, number)) {
+        return 0.0;
+    }
     let mut spent = Duration::ZERO;
     for _ in 0..PASSES {
         let mut desks: Vec<D> = (0..DESKS).map(|_| prepared()).collect();
