@@ -21,8 +21,8 @@ def noted(start, use):
 
 
 def between_marks(notes):
-    """The number of instructions from a mark of the bench to the next, in pairs: of the archive's form, and of the plain one. A note ends in
-    its function's name, if that is known: the C library's are not."""
+    """The number of instructions from a mark of the bench to the next, in pairs: of the archive's form, and of the plain one. A note
+    ends in its function's name, if that is known: the C library's are not."""
     counts, inside, last = [], False, ""
     for note in notes:
         name = note[note.rindex("]") + 1:].strip()

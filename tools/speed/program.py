@@ -19,9 +19,9 @@ def archive_folder():
 def started(folder, place, **environment):
     """The running bench, for the archive in that folder: each line that it prints has its fields between tabs."""
     flags = f"{FLAGS} -C link-arg=-Wl,--section-start=.text={FIRST + STEP * place:#x}"
-    environment = {**os.environ, "RUSTFLAGS": flags, "RUSTC_BOOTSTRAP": "1", "COE_DESK_LIB_DIR": folder, "CARGO_TARGET_DIR": str(BUILT), **environment}
+    build = {"RUSTFLAGS": flags, "RUSTC_BOOTSTRAP": "1", "COE_DESK_LIB_DIR": folder, "CARGO_TARGET_DIR": str(BUILT)}
     command = [ROOT / "tools" / "cargo", "bench", "--quiet", "--offline", "--bench", "beside_plain"]
-    return subprocess.Popen(command, cwd=ROOT / "host", env=environment, stdout=subprocess.PIPE, text=True)
+    return subprocess.Popen(command, cwd=ROOT / "host", env={**os.environ, **build, **environment}, stdout=subprocess.PIPE, text=True)
 
 
 def lines(running):
