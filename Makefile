@@ -1,6 +1,7 @@
 # The commands of the README: `make test`, `make run` (`make run FILE=x` runs an order file of yours), `make mutants`, `make differential`
-# (CASES=, ORDERS= and SEED= choose how many cases and order files, and which), `make wrong-rules`, `make wireshark` and `make stored`.
-.PHONY: test run mutants differential wrong-rules wireshark stored
+# (CASES=, ORDERS= and SEED= choose how many cases and order files, and which), `make wrong-rules`, `make wireshark`, `make bench` and
+# `make stored`.
+.PHONY: test run mutants differential wrong-rules wireshark bench stored
 
 test:
 	@tools/test
@@ -20,6 +21,10 @@ wrong-rules:
 
 wireshark:
 	@tools/wireshark/run
+
+bench:
+	@tools/build order
+	@tools/bench
 
 stored:
 	@tools/stored

@@ -85,6 +85,11 @@ fn address(bytes: &mut [u8; 16], command: u8, object: Object) {
     bytes[11] = object.sub;
 }
 
+/// A flag comes as a number, as it does from C.
+fn flag(number: u8) -> Option<bool> {
+    (number <= 1).then_some(number == 1)
+}
+
 fn write_counted(counter: u8, request: Option<Request>, frame: &mut [u8]) -> u8 {
     match request {
         Some(request) if (1..=7).contains(&counter) => request.write(counter, frame),
@@ -93,12 +98,24 @@ fn write_counted(counter: u8, request: Option<Request>, frame: &mut [u8]) -> u8 
 }
 
 #[inline(never)]
-pub fn upload_frame(counter: u8, index: u16, sub: u8, complete: bool, frame: &mut [u8]) -> u8 {
-    write_counted(counter, Some(Request::Upload(Object::new(index, sub, complete))), frame)
+pub fn upload_frame(counter: u8, index: u16, sub: u8, complete: u8, frame: &mut [u8]) -> u8 {
+    let request = flag(complete).map(|complete| Request::Upload(Object::new(index, sub, complete)));
+    write_counted(counter, request, frame)
 }
 
 #[inline(never)]
-pub fn download_frame(counter: u8, index: u16, sub: u8, complete: bool, data: &[u8], frame: &mut [u8]) -> u8 {
-    let request = Data::new(data).map(|data| Request::Download(Object::new(index, sub, complete), data));
+pub fn download_frame(counter: u8, index: u16, sub: u8, complete: u8, data: &[u8], frame: &mut [u8]) -> u8 {
+    let object = flag(complete).map(|complete| Object::new(index, sub, complete));
+    let request = object.and_then(|object| Data::new(data).map(|data| Request::Download(object, data)));
     write_counted(counter, request, frame)
+}
+
+#[inline(never)]
+pub fn segment_frame(counter: u8, toggle: u8, frame: &mut [u8]) -> u8 {
+    write_counted(counter, flag(toggle).map(|toggle| Request::Segment { toggle }), frame)
+}
+
+#[inline(never)]
+pub fn list_frame(counter: u8, kind: u16, frame: &mut [u8]) -> u8 {
+    write_counted(counter, (kind <= 5).then_some(Request::List { kind }), frame)
 }

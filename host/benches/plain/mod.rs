@@ -7,7 +7,7 @@ mod frames;
 mod judge;
 
 pub use desk::Desk;
-pub use frames::{download_frame, upload_frame};
+pub use frames::{download_frame, list_frame, segment_frame, upload_frame};
 pub use judge::judge;
 
 use crate::ffi::Answer;

@@ -1,7 +1,9 @@
 //! Both forms give the same answers and leave the same bytes, on what is timed and on much else.
 use crate::ffi::{self, Record};
 use crate::plain::{self, Desk};
-use crate::works::inputs::{longest_segment, DATA, EXPEDITED, INDEX, SEGMENT, SUB, UPLOAD, WRONG_TYPE};
+use crate::works::inputs::{lists, payload, segment, uploads, ABORT, DATA, EXPEDITED, INDEX};
+use crate::works::inputs::{LIST, LONGEST, ROOM, SEGMENT, SUB, UPLOAD, WRONG_TYPE};
+use crate::works::transferred;
 
 /// Numbers that look like chance and are the same in every run.
 struct Chance(u64);
@@ -22,7 +24,7 @@ impl Chance {
             0 => EXPEDITED.to_vec(),
             1 => b"\x0e\0\0\0\0\x13\0\x30\x41\x18\x10\x04\x04\0\0\0\x01\x02\x03\x04".to_vec(),
             2 => b"\x0a\0\0\0\0\x13\0\x30\0\0\0\0\x01\x02\x03\x04\x05\x06\x07\x08".to_vec(),
-            3 => b"\x0a\0\0\0\0\x13\0\x20\x80\x18\x10\x04\x11\0\x09\x06".to_vec(),
+            3 => ABORT.to_vec(),
             4 => b"\x0a\0\0\0\0\x13\0\x10\0\0\0\0\x10\x23\x01\0\0\0\0\0".to_vec(),
             _ => b"\x0c\0\0\0\0\x13\0\x80\x82\0\x01\0\x01\0\0\x10\x18\x10\x00\x20".to_vec(),
         };
@@ -40,18 +42,46 @@ impl Chance {
     }
 }
 
+/// Both forms of a writer's call, each with a buffer of `length` bytes.
+fn written(length: usize, archive: impl Fn(&mut [u8]) -> u8, plain: impl Fn(&mut [u8]) -> u8) {
+    let (mut left, mut right) = (vec![0xa5; length], vec![0xa5; length]);
+    assert_eq!((archive(&mut left), left), (plain(&mut right), right));
+}
+
+/// With the flags that the crate's types have. Any other is refused by the plain form too.
 fn writers() {
     for length in [0, 15, 16, 17, 1485, 1486, 1487] {
-        for (counter, complete) in (0..=9).flat_map(|counter| [(counter, false), (counter, true)]) {
-            let (mut left, mut right) = (vec![0xa5; length], vec![0xa5; length]);
-            let archive = ffi::upload_frame(counter, INDEX, SUB, complete, &mut left);
-            assert_eq!((archive, &left), (plain::upload_frame(counter, INDEX, SUB, complete, &mut right), &right));
+        for (counter, flag) in (0..=9).flat_map(|counter| [(counter, 0), (counter, 1)]) {
+            let complete = flag == 1;
+            written(
+                length,
+                |frame| ffi::upload_frame(counter, INDEX, SUB, complete, frame),
+                |frame| plain::upload_frame(counter, INDEX, SUB, flag, frame),
+            );
             for data in [&[][..], &DATA[..1], &DATA[..3], &DATA, &[0; 5]] {
-                let archive = ffi::download_frame(counter, INDEX, SUB, complete, data, &mut left);
-                assert_eq!((archive, &left), (plain::download_frame(counter, INDEX, SUB, complete, data, &mut right), &right));
+                written(
+                    length,
+                    |frame| ffi::download_frame(counter, INDEX, SUB, complete, data, frame),
+                    |frame| plain::download_frame(counter, INDEX, SUB, flag, data, frame),
+                );
             }
+            written(
+                length,
+                |frame| ffi::segment_frame(counter, complete, frame),
+                |frame| plain::segment_frame(counter, flag, frame),
+            );
+        }
+        for (counter, kind) in (0..=9).flat_map(|counter| (0..=6).map(move |kind| (counter, kind))) {
+            written(length, |frame| ffi::list_frame(counter, kind, frame), |frame| plain::list_frame(counter, kind, frame));
         }
     }
+    let frame = &mut [0; 16];
+    let refused = [
+        plain::upload_frame(1, INDEX, SUB, 2, frame),
+        plain::download_frame(1, INDEX, SUB, 2, &DATA, frame),
+        plain::segment_frame(1, 2, frame),
+    ];
+    assert_eq!((refused, *frame), ([0x15; 3], [0; 16]));
 }
 
 fn judged(kind: u8, earlier: u32, reply: &[u8], room: usize) -> u8 {
@@ -65,7 +95,10 @@ fn judged(kind: u8, earlier: u32, reply: &[u8], room: usize) -> u8 {
 fn judges(chance: &mut Chance) {
     assert_eq!(judged(UPLOAD, 0, &EXPEDITED, 4096), 0x00);
     assert_eq!(judged(UPLOAD, 0, &WRONG_TYPE, 4096), 0x23);
-    assert_eq!(judged(SEGMENT, 0, &longest_segment(), 4096), 0x01);
+    assert_eq!(judged(UPLOAD, 0, &ABORT, 4096), 0x22);
+    for (length, room) in [(0, 4), (4, 4), (7, 4096), (64, ROOM), (LONGEST, ROOM)] {
+        assert_eq!(judged(SEGMENT, 0, &segment(&payload(length), false), room), 0x01);
+    }
     let mut seen = [0; 256];
     for _ in 0..20_000 {
         let kind = [1, 3, 4, 7, 8, 2][chance.below(6) as usize];
@@ -111,9 +144,24 @@ fn desks(chance: &mut Chance) {
     }
 }
 
+/// Whole transfers bring the payload that was cut into their replies.
+fn transfers() {
+    for length in [65_536, ROOM] {
+        let payload = payload(length);
+        for (kind, index, replies) in [(UPLOAD, INDEX, uploads(&payload)), (LIST, 1, lists(&payload))] {
+            let (mut left, mut right) = (vec![0; length], vec![0; length]);
+            let archive = transferred(&mut Record::fresh(), kind, index, &replies, &mut left);
+            let plain = transferred(&mut Desk::fresh(), kind, index, &replies, &mut right);
+            assert_eq!((archive, archive.number, archive.length as usize), (plain, 0x00, length));
+            assert!(left == payload && right == payload, "a transfer of kind {kind} brought other bytes than were sent");
+        }
+    }
+}
+
 pub fn check() {
     let mut chance = Chance(1);
     writers();
     judges(&mut chance);
     desks(&mut chance);
+    transfers();
 }

@@ -1,10 +1,14 @@
 //! Two ways to do the same work, timed by turns.
+mod counts;
+
+pub use counts::{counted, counting};
+
 use std::mem::ManuallyDrop;
 use std::ptr;
 use std::time::Instant;
 
 /// Many and short, of a millisecond or so: where other work takes the processor for a while, it spoils few of them.
-const ROUNDS: usize = 201;
+const ROUNDS: usize = 101;
 
 /// The value, of which the compiler knows nothing any more: `std::hint::black_box` is newer than the crate's Rust.
 #[inline(always)]
@@ -14,8 +18,11 @@ pub fn opaque<T>(value: T) -> T {
     unsafe { ptr::read_volatile(&*value) }
 }
 
-/// Nanoseconds for one of so many calls.
+/// Nanoseconds for one of so many calls. Where instructions are counted, one call is made.
 pub fn each(calls: u32, mut call: impl FnMut()) -> f64 {
+    if counted(&mut call) {
+        return 0.0;
+    }
     let begun = Instant::now();
     for _ in 0..calls {
         call();
@@ -30,14 +37,15 @@ fn quantile(values: &[f64], share: f64) -> f64 {
     sorted[((sorted.len() - 1) as f64 * share).round() as usize]
 }
 
-pub fn print_head() {
-    println!("| call | archive, ns | plain, ns | ratio | middle half of the rounds | bound | met |");
-    println!("|---|---|---|---|---|---|---|");
-}
-
-/// Prints a line of the table. Each round has both run, one right after the other and each the first in every other round, and takes
-/// the ratio of the two.
-pub fn print_row(name: &str, bound: f64, archive: impl Fn() -> f64, plain: impl Fn() -> f64) {
+/// Prints one line, of fields with tabs between them: the table, its row and column, the nanoseconds of both, the ratio, and the
+/// ends of the middle half of the ratios. Each round has both run, one right after the other and each the first in every other round,
+/// and takes the ratio of the two.
+pub fn print_ratio(table: &str, row: &str, column: &str, mut archive: impl FnMut() -> f64, mut plain: impl FnMut() -> f64) {
+    if counting() {
+        (archive(), plain());
+        println!("{table}\t{row}\t{column}");
+        return;
+    }
     let (mut archives, mut plains, mut ratios) = (Vec::new(), Vec::new(), Vec::new());
     for round in 0..ROUNDS {
         let (a, p);
@@ -52,13 +60,12 @@ pub fn print_row(name: &str, bound: f64, archive: impl Fn() -> f64, plain: impl 
         plains.push(p);
         ratios.push(a / p);
     }
-    let ratio = quantile(&ratios, 0.5);
     println!(
-        "| {name} | {:.0} | {:.0} | {ratio:.2} | {:.2} to {:.2} | {bound:.1} | {} |",
+        "{table}\t{row}\t{column}\t{:.1}\t{:.1}\t{:.3}\t{:.3}\t{:.3}",
         quantile(&archives, 0.5),
         quantile(&plains, 0.5),
+        quantile(&ratios, 0.5),
         quantile(&ratios, 0.25),
         quantile(&ratios, 0.75),
-        if ratio <= bound { "yes" } else { "**no**" }
     );
 }
