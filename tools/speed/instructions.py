@@ -6,8 +6,8 @@ import tempfile
 
 COUNTED = platform.machine() != "x86_64"
 MARK = "coe_bench_mark"
-# the loops and arguments around a call, which are the same for both forms
-AROUND = ("_ZN12beside_plain5works", "_ZN12beside_plain6timing")
+# the bench's functions: the loops and arguments around a call, which are the same for both forms, and the plain form
+BENCH, PLAIN = "_ZN12beside_plain", "_ZN12beside_plain5plain"
 
 
 def noted(start, use):
@@ -30,7 +30,7 @@ def between_marks(notes):
             inside = not inside
             if inside:
                 counts.append(0)
-        elif inside and name != MARK and not name.startswith(AROUND):
+        elif inside and name != MARK and (name.startswith(PLAIN) or not name.startswith(BENCH)):
             counts[-1] += 1
         last = name
     return list(zip(counts[::2], counts[1::2]))

@@ -7,9 +7,10 @@ import sys
 ROOT = pathlib.Path(__file__).resolve().parent.parent.parent
 BUILT = ROOT / "target" / "bench"
 FIRST, STEP = 0x20000, 0x150
-# The archive calls the C library through the linker's table. Rust would not, and an emulator makes that jump dear; to have it do so is
-# an unstable option of Debian's compiler, which takes it with RUSTC_BOOTSTRAP alone.
-FLAGS = "-Z plt=yes"
+# As the archive is built: in one unit, so that functions of other modules are put into their callers, and with calls of the C library
+# that go through the linker's table. Rust's would not, and an emulator makes that jump dear; it is an unstable option of Debian's
+# compiler, which takes it with RUSTC_BOOTSTRAP alone.
+FLAGS = "-C codegen-units=1 -Z plt=yes"
 
 
 def archive_folder():
