@@ -17,12 +17,13 @@ def archive_folder():
     return subprocess.run([ROOT / "tools" / "archive"], stdout=subprocess.PIPE, text=True, check=True).stdout.strip()
 
 
-def started(folder, place, **environment):
+def started(folder, place, environment={}, files=()):
     """The running bench, for the archive in that folder: each line that it prints has its fields between tabs."""
     flags = f"{FLAGS} -C link-arg=-Wl,--section-start=.text={FIRST + STEP * place:#x}"
     build = {"RUSTFLAGS": flags, "RUSTC_BOOTSTRAP": "1", "COE_DESK_LIB_DIR": folder, "CARGO_TARGET_DIR": str(BUILT)}
     command = [ROOT / "tools" / "cargo", "bench", "--quiet", "--offline", "--bench", "beside_plain"]
-    return subprocess.Popen(command, cwd=ROOT / "host", env={**os.environ, **build, **environment}, stdout=subprocess.PIPE, text=True)
+    return subprocess.Popen(command, cwd=ROOT / "host", env={**os.environ, **build, **environment}, pass_fds=files,
+                            stdout=subprocess.PIPE, text=True)
 
 
 def lines(running):
