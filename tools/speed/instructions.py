@@ -2,22 +2,21 @@
 Where programs need no emulator, nothing is counted."""
 import os
 import platform
-import tempfile
 
 COUNTED = platform.machine() != "x86_64"
 MARK = "coe_bench_mark"
-# the loops and arguments around a call, which are the same for both forms
-AROUND = ("_ZN12beside_plain5works", "_ZN12beside_plain6timing")
+# the bench's functions: the loops and arguments around a call, which are the same for both forms, and the plain form
+BENCH, PLAIN = "_ZN12beside_plain", "_ZN12beside_plain5plain"
 
 
 def noted(start, use):
-    """What `use` makes of the notes, one line for each instruction, of the program that `start` starts with an environment."""
-    with tempfile.TemporaryDirectory() as folder:
-        pipe = os.path.join(folder, "notes")
-        os.mkfifo(pipe)
-        running = start({"QEMU_SINGLESTEP": "1", "QEMU_LOG": "exec,nochain", "QEMU_LOG_FILENAME": pipe})
-        with open(pipe) as notes:
-            return running, use(note for note in notes if note.startswith("Trace"))
+    """The program that `start` starts with an environment and a file to leave open, and what `use` makes of its notes, one line for each
+    instruction."""
+    read, write = os.pipe()
+    running = start({"QEMU_SINGLESTEP": "1", "QEMU_LOG": "exec,nochain", "QEMU_LOG_FILENAME": f"/dev/fd/{write}"}, write)
+    os.close(write)
+    with open(read) as notes:
+        return running, use(note for note in notes if note.startswith("Trace"))
 
 
 def between_marks(notes):
@@ -30,7 +29,7 @@ def between_marks(notes):
             inside = not inside
             if inside:
                 counts.append(0)
-        elif inside and name != MARK and not name.startswith(AROUND):
+        elif inside and name != MARK and (name.startswith(PLAIN) or not name.startswith(BENCH)):
             counts[-1] += 1
         last = name
     return list(zip(counts[::2], counts[1::2]))
@@ -40,7 +39,7 @@ def of_calls(program, folder):
     """Of each table, row and column the instructions of both forms."""
     if not COUNTED:
         return {}
-    running, counts = noted(lambda emulator: program.started(folder, 0, COE_DESK_COUNT="1", **emulator), between_marks)
+    running, counts = noted(lambda emulator, file: program.started(folder, 0, {"COE_DESK_COUNT": "1", **emulator}, [file]), between_marks)
     return dict(zip([tuple(fields) for fields in program.lines(running)], counts))
 
 

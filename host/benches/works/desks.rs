@@ -99,8 +99,8 @@ fn on_each<D>(prepared: impl Fn() -> D, number: u8, mut call: impl FnMut(&mut D)
 
 /// The entry that makes the line `waiting` long.
 pub fn enter<D: Calls>(waiting: u8) -> f64 {
-    let (seat, kind, index, sub) = (opaque(waiting - 1), opaque(UPLOAD), opaque(INDEX), opaque(SUB));
-    on_each(|| desk_of::<D>(waiting - 1), 0x01, |desk| desk.enter(seat, kind, index, sub, &[]))
+    let (seat, kind, index, sub, data) = (opaque(waiting - 1), opaque(UPLOAD), opaque(INDEX), opaque(SUB), opaque(&[][..]));
+    on_each(|| desk_of::<D>(waiting - 1), 0x01, |desk| desk.enter(seat, kind, index, sub, data))
 }
 
 pub fn send<D: Calls>(waiting: u8) -> f64 {
@@ -140,12 +140,12 @@ pub fn round_trip<D: Calls>(waiting: u8) -> f64 {
     let mut desk: D = desk_of(waiting);
     let (mut frame, mut data, mut seat) = ([0; 16], [0; 4], 0);
     let (frame, data, reply) = (opaque(&mut frame[..]), opaque(&mut data[..]), opaque(&EXPEDITED[..]));
-    let (kind, index, sub) = (opaque(UPLOAD), opaque(INDEX), opaque(SUB));
+    let (kind, index, sub, none) = (opaque(UPLOAD), opaque(INDEX), opaque(SUB), opaque(&[][..]));
     each(TRIPS, || {
         let numbers = [
             desk.send(seat, frame).number,
             desk.receive(seat, reply, data).number,
-            desk.enter(seat, kind, index, sub, &[]).number,
+            desk.enter(seat, kind, index, sub, none).number,
         ];
         assert_eq!(numbers, [0x02, 0x00, 0x01]);
         seat = if seat + 1 == waiting { 0 } else { seat + 1 };
