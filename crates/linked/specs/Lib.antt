@@ -1,4 +1,3 @@
-pub mod Frames
 pub mod Judging
 pub mod Examples
 pub mod Reading

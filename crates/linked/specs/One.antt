@@ -5,13 +5,13 @@ use mathlib.Core.List.{List}
 use Prim.Native.Nat.{ℕ}
 use Rattle.wire.specs.Words.{One}
 use Rattle.line.specs.Desk.{Call}
+use Rattle.services.specs.Written.{Frames}
 use Rattle.services.specs.declared.Request.{Request}
 use Rattle.judge.specs.declared.Answer.{Answer}
 use Rattle.transfer.specs.Coe.{coeMachine}
 use Rattle.desk.specs.Calls.{Gives, GivesLent}
 use Rattle.desk.specs.declared.Desk.{Desk}
 use Rattle.lent.specs.Found.{found}
-use Rattle.linked.specs.Frames.{Frames}
 use Rattle.linked.specs.Judging.{Judges}
 
 pub record Unique : Type 0 where

@@ -6,9 +6,10 @@ ghost use mathlib.Core.Path.{_≡_};
 ghost use lib.ListN.{length};
 ghost use Rattle.wire.specs.Front.{inFront};
 ghost use Rattle.services.specs.Requests.{packedOf, named, answered};
-ghost use Rattle.services.specs.Written.{wroteOf, frameWith, numberOf};
+ghost use Rattle.services.specs.Written.{wroteOf, frameWith, numberOf, wroteBy};
 
 pub mod checked;
+pub mod numbered;
 mod packing;
 
 // What is asked of the drive. A download's data are its value's first `len` bytes; list kind 0 asks for the quantities.
@@ -54,24 +55,24 @@ pub fn pack(counter: u8, request: Request) -> [u8; 16]
 }
 
 // Puts sixteen bytes at the front of the frame buffer and zeros behind them, or refuses a buffer of another length.
-fn put(bytes: [u8; 16], frame: &mut [u8]) -> Wrote
-    ensures { λ r. ⌜ (r ≡ wroteOf (length (now (frame .entry)))) × (now (frame .exit) ≡ frameWith bytes (now (frame .entry))) ⌝ }
+fn put(bytes: [u8; 16], frame: &mut [u8]) -> u8
+    ensures { λ r. ⌜ (r ≡ numberOf (wroteOf (length (now (frame .entry))))) × (now (frame .exit) ≡ frameWith bytes (now (frame .entry))) ⌝ }
 {
     if frame.len() < 16 {
-        return Wrote::Refused(0x16);
+        return 0x16;
     }
     if 1486 < frame.len() {
-        return Wrote::Refused(0x16);
+        return 0x16;
     }
     wire::put_front(frame, &bytes);
-    Wrote::Frame
+    0x02
 }
 
 // Puts the request at the front of the frame buffer and zeros behind it, or refuses a buffer of another length.
 pub fn write_request(counter: u8, request: Request, frame: &mut [u8]) -> Wrote
     ensures { λ r. ⌜ (r ≡ wroteOf (length (now (frame .entry)))) × (now (frame .exit) ≡ frameWith (packedOf counter request) (now (frame .entry))) ⌝ }
 {
-    put(pack(counter, request), frame)
+    wrote_by(put(pack(counter, request), frame))
 }
 
 fn names(index: u16, access: SubIndex, received_index: u16, received_subindex: u8) -> bool
@@ -111,4 +112,14 @@ pub fn number_of(wrote: Wrote) -> u8
         Wrote::Frame => 0x02,
         Wrote::Refused(n) => n,
     }
+}
+
+// The answer of a number that a writer gives.
+fn wrote_by(number: u8) -> Wrote
+    ensures { λ r. ⌜ r ≡ wroteBy number ⌝ }
+{
+    if number == 0x02 {
+        return Wrote::Frame;
+    }
+    Wrote::Refused(number)
 }
