@@ -62,8 +62,8 @@ pub(crate) fn empty(counter: u8) -> Desk
     }
 }
 
-// The place of a seat in the line, 0 at the head; `waiting` where it is not there. The bound is the constant 8, and not `waiting`:
-// the compiler then copies the record once less.
+// The place of a seat in the line, 0 at the head; `waiting` where it is not there. The blanks behind the line are looked at too, so that
+// a slot takes one test, and the bound is the constant 8: the compiler then writes the tests out, and copies the record once less.
 pub(crate) fn place(desk: Desk, seat: u8) -> usize
     requires { ⌜ desk .waiting ≤ 8 ⌝ }
     ensures { λ r. ⌜ r ≡ placeIn seat (viewOf desk .line) ⌝ }
@@ -71,16 +71,16 @@ pub(crate) fn place(desk: Desk, seat: u8) -> usize
     let n = desk.waiting;
     let mut i: usize = 0;
     while i < 8 {
-        if n <= i {
-            return i;
-        }
         let s = desk.line[i];
         if seat == s.seat {
-            return i;
+            if i < n {
+                return i;
+            }
+            return n;
         }
         i += 1;
     }
-    i
+    n
 }
 
 // 10, 12, 13.
