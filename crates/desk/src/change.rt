@@ -23,7 +23,8 @@ pub struct Change {
     pub kept: bool,
 }
 
-pub(crate) fn stays(number: u8) -> Change
+// Nothing changes: a refusal.
+pub fn stays(number: u8) -> Change
     ensures { λ r. ⌜ r ≡ staysAt number ⌝ }
 {
     let answer = judge::plain(number);
@@ -105,7 +106,7 @@ pub(crate) fn moves_on(answer: Answer, desk: Desk, seat: u8, next: Next) -> Chan
 }
 
 // The change made, by value.
-pub(crate) fn changed(desk: Desk, change: Change) -> Called
+pub fn changed(desk: Desk, change: Change) -> Called
     requires { ⌜ Within change ⌝ }
     ensures { λ r. ⌜ r ≡ calledBy change desk ⌝ }
 {

@@ -1,6 +1,7 @@
 pub mod Printing
 pub mod Forms
 pub mod Spoken
+pub mod Read
 pub mod Parts
 pub mod Characters
 pub mod Feeding

@@ -1,23 +1,26 @@
--- What each way through a line says, by what the desk's calls promised. Assumes nothing.
+-- What is printed for each answer of the desk. Assumes nothing.
 use Prim.Native.Nat.{ℕ, _+_, _-_, _*_, _≤_, min}
 use mathlib.Core.Path.{_≡_, refl, sym, ap, _∙_, subst}
+use mathlib.Core.Bool.{true, false, false≢true}
 use mathlib.Core.List.{List, [], _∷_, _++_}
 use native.Mathlib.Omega.{arith}
-use lib.ListN.{length, take, replicate, length-take}
-use borrow.Author.Tests.{eq-eqb, ne-eqb}
-use Rattle.wire.specs.Words.{pick}
+use lib.Dec.{eqb}
+use lib.ListN.{length, set, take, replicate, length-take}
+use borrow.Author.Tests.{eq-eqb, ne-eqb, eqb-true, leb-true}
 use Rattle.wire.specs.Store.{laid}
-use Rattle.line.specs.Desk.{enter, receive, leave}
-use Rattle.transfer.specs.declared.Order.{Order}
+use Rattle.wire.proofs.Cases.{by}
+use Rattle.line.specs.Desk.{leave}
 use Rattle.desk.specs.Record.{Good}
 use Rattle.desk.specs.Calls.{Gives, GivesLent}
+use Rattle.desk.specs.Change.{moved, changedBy, calledBy, Within}
 use Rattle.desk.specs.declared.Desk.{Desk}
 use Rattle.desk.specs.declared.Called.{Called}
+use Rattle.desk.specs.declared.change.Change.{Change}
+use Rattle.desk.specs.declared.record.Slot.{Slot}
+use Rattle.desk.proofs.Moved.{moved-none}
 use Rattle.judge.proofs.Laid.{laid-join, laid-nil}
 use Rattle.order_text.specs.Text.{hexText, textIn}
-use Rattle.order_run.specs.Entry.{formOf}
-use Rattle.order_run.specs.Turns.{called, lentBack, lineText, Said, last, failed, sending, request, afterEnter, afterForm, afterReceive, afterReply, keptReply, afterFrame, keptFrame, afterAll, Turned}
-use Rattle.order_run.specs.declared.entry.Form.the-variants.{Listed, Unlisted}
+use Rattle.order_run.specs.Turns.{called, lentBack, lineText, Said, last, failed, sending, request, afterReceive, afterAll, Says, quiet, Turned}
 use Rattle.order_run.specs.declared.turns.Turn.{Turn}
 use Rattle.order_run.proofs.Printing.{length-line, all-text, take-least}
 
@@ -28,6 +31,10 @@ turned-as {at = at} {r = r} {o = o} {o′ = o′} e T = subst (λ (s : Said). Tu
 
 abbrev turn : Desk → ℕ → ℕ → Turn
 turn d p e = record { desk = d; phase = p; end = e }
+
+pub turned-at : {x : Said} {at p q e f : ℕ} {d d′ : Desk} {o o₁ o₂ : List ℕ} → d ≡ d′ → p ≡ q → e ≡ f → o₁ ≡ o₂
+    → Turned x at (turn d′ q f) o o₂ → Turned x at (turn d p e) o o₁
+turned-at {x} {at} {o = o} a b c g T = subst (λ (r : Turn × List ℕ). Turned x at (r .0) o (r .1)) (λ i. (turn (sym a i) (sym b i) (sym c i), sym g i)) T
 
 pub last-turned : (d : Desk) (s o o′ : List ℕ) (at e : ℕ) → Good d → at + 2 * length s + 1 ≤ length o → e ≡ at + length (lineText s) → o′ ≡ laid o at (lineText s)
     → Turned (last d s) at (turn d 2 e) o o′
@@ -89,27 +96,15 @@ done-room k o at from stored n h f l =
     let z = all-text (length o - at) (0 ∷ []) (omega arith) in
     omega (arith, f ∙ ap (λ (s : List ℕ). at + length s) z, two, l, length-take stored k)
 
-pub quiet-turned : (d : Desk) (o : List ℕ) (at : ℕ) → Good d → at ≤ length o → Turned (record { desk = d; phase = 1; text = [] }) at (turn d 1 at) o o
-quiet-turned d o at G h =
+-- nothing is printed
+abbrev quietly : Desk → Said
+quietly d = record { desk = d; phase = 1; text = [] }
+
+pub still-turned : (d : Desk) (o : List ℕ) (at : ℕ) → Good d → at ≤ length o → Turned (quietly d) at (turn d 1 at) o o
+still-turned d o at G h =
     record { told = ap (turn d 1) (omega arith); printed = laid-nil o at; good = G; fits = omega arith; short = λ n. omega arith }
 
--- ---- an entry
-
-pub unlisted : (d : Desk) (s : List ℕ) → formOf s ≡ Unlisted → failed d ≡ afterForm d (formOf s)
-unlisted d s f = ap (afterForm d) (sym f)
-
-module _ (d : Desk) (s : List ℕ) (o : Order) (r : Called) (f : formOf s ≡ Listed o) (G : Gives d (enter 0 o) r) where
-  entering : afterEnter r ≡ afterForm d (formOf s)
-  unfolding called
-  entering = ap afterEnter (G .told) ∙ ap (afterForm d) (sym f)
-
-  pub entered-yes : r .answer .number ≡ 1 → request (r .desk) ≡ afterForm d (formOf s)
-  entered-yes e = ap (λ b. pick b (request (r .desk)) (failed (r .desk))) (sym (eq-eqb (r .answer .number) 1 e)) ∙ entering
-
-  pub entered-no : (r .answer .number ≡ 1 → ⊥) → failed (r .desk) ≡ afterForm d (formOf s)
-  entered-no e = ap (λ b. pick b (request (r .desk)) (failed (r .desk))) (sym (ne-eqb (r .answer .number) 1 e)) ∙ entering
-
--- ---- a reply
+-- ---- the numbers of the answers
 
 module _ (r : Called) (k : List ℕ) where
   pub number-0 : r .answer .number ≡ 0 → last (r .desk) (0 ∷ take (r .answer .length) k) ≡ afterReceive r k
@@ -121,7 +116,7 @@ module _ (r : Called) (k : List ℕ) where
   number-1 z e = sym (rw (ne-eqb (r .answer .number) 0 z, eq-eqb (r .answer .number) 1 e))
 
   pub number-2 : (r .answer .number ≡ 0 → ⊥) → (r .answer .number ≡ 1 → ⊥) → r .answer .number ≡ 2
-      → _≡_ {A = Said} (record { desk = r .desk; phase = 1; text = [] }) (afterReceive r k)
+      → quietly (r .desk) ≡ afterReceive r k
   unfolding afterReceive
   number-2 z y e = sym (rw (ne-eqb (r .answer .number) 0 z, ne-eqb (r .answer .number) 1 y, eq-eqb (r .answer .number) 2 e))
 
@@ -130,24 +125,38 @@ module _ (r : Called) (k : List ℕ) where
   unfolding afterReceive
   number-last z y x = sym (rw (ne-eqb (r .answer .number) 0 z, ne-eqb (r .answer .number) 1 y, ne-eqb (r .answer .number) 2 x))
 
-module _ (d : Desk) (s k k′ : List ℕ) (r : Called) (G : GivesLent d (receive 0 (s, k)) r k k′) where
-  pub reply-said : afterReceive r k′ ≡ afterReply d s k
-  unfolding afterReply called lentBack
-  reply-said =
-      ap (λ (c : Called). afterReceive c k′) (G .told) ∙ ap (afterReceive (called d (receive 0 (s, k)))) (G .lent)
+module _ {x r : Called} (e : r ≡ x) where
+  pub good-called : Good (x .desk) → Good (r .desk)
+  good-called G = subst (λ (y : Called). Good (y .desk)) (sym e) G
 
-  pub reply-kept : k′ ≡ keptReply d s k
-  unfolding keptReply lentBack
-  reply-kept = G .lent
+  pub said-called : (k : List ℕ) → afterReceive r k ≡ afterReceive x k
+  said-called k = ap (λ (y : Called). afterReceive y k) e
 
-module _ (p : ℕ) (d : Desk) (s k : List ℕ) where
-  pub frame-entry : p ≡ 0 → (afterForm d (formOf s) ≡ afterFrame p d s k) × (k ≡ keptFrame p d s k)
-  unfolding afterFrame keptFrame
-  frame-entry e = (sym (rw (eq-eqb p 0 e)), sym (rw (eq-eqb p 0 e)))
+-- ---- a reply that is still due, where one slot is all that changes: the record with that slot
 
-  pub frame-reply : (p ≡ 0 → ⊥) → (afterReply d s k ≡ afterFrame p d s k) × (keptReply d s k ≡ keptFrame p d s k)
-  unfolding afterFrame keptFrame
-  frame-reply e = (sym (rw (ne-eqb p 0 e)), sym (rw (ne-eqb p 0 e)))
+quiet-is : (c : Change) → quiet c ≡ true → (c .kept ≡ false) × (c .last ≤ c .first) × (c .answer .number ≡ 2)
+quiet-is c q =
+    by (eqb (c .answer .number) 2)
+    (λ n. by (c .kept)
+    (λ k. absurd (false≢true (rw (n, k) at q)))
+    (λ k. (k, leb-true _ _ (rw (n, k) at q), eqb-true _ _ n)))
+    (λ n. absurd (false≢true (rw n at q)))
+
+slot-set : (d : Desk) (c : Change) → Within c → quiet c ≡ true
+    → record { line = set (d .line) (c .at) (c .slot); waiting = c .waiting; counter = c .counter } ≡ changedBy c d
+slot-set d c W q =
+    let i = quiet-is c q in
+    let f : c .last ≡ c .first = omega (arith, W .ordered, i .1) in
+    let m : d .line ≡ moved (d .line) (c .first) (c .last) = sym (ap (moved (d .line) (c .first)) f ∙ moved-none (d .line) (c .first)) in
+    ap (λ (l : List Slot). record { line = set l (c .at) (c .slot); waiting = c .waiting; counter = c .counter }) m ∙ sym (rw (i .0))
+
+pub quiet-turned : {d : Desk} {x : Said} {c : Change} {k : List ℕ} (o : List ℕ) (at : ℕ) → Says d x c k → quiet c ≡ true → at ≤ length o
+    → Turned x at (turn (record { line = set (d .line) (c .at) (c .slot); waiting = c .waiting; counter = c .counter }) 1 at) o o
+quiet-turned {d} {x} {c} {k} o at S q h =
+    let n = quiet-is c q .2 in
+    let s = number-2 (calledBy c d) k (λ e. omega (arith, n, e)) (λ e. omega (arith, n, e)) n ∙ S .told in
+    turned-as s
+    (subst (λ (e : Desk). Turned (quietly (changedBy c d)) at (turn e 1 at) o o) (sym (slot-set d c (S .within) q)) (still-turned (changedBy c d) o at (S .good) h))
 
 module _ (p : ℕ) (d : Desk) where
   pub all-none : p ≡ 0 → failed d ≡ afterAll p d

@@ -2,8 +2,9 @@
 -- frame buffer, a data buffer of 4,096 bytes". Assumes nothing.
 use Prim.Native.Nat.{ℕ, _+_, _≤_}
 use mathlib.Core.Path.{_≡_}
+use mathlib.Core.Bool.{Bool, false}
 use mathlib.Core.List.{List, [], _∷_, _++_}
-use lib.Dec.{eqb}
+use lib.Dec.{eqb, leb}
 use lib.ListN.{length, take, replicate}
 use Rattle.wire.specs.Words.{pick}
 use Rattle.wire.specs.Store.{laid}
@@ -11,8 +12,10 @@ use Rattle.line.specs.Desk.{Call, enter, send, receive, leave, step}
 use Rattle.transfer.specs.Coe.{coeMachine}
 use Rattle.desk.specs.Record.{viewOf, Good}
 use Rattle.desk.specs.Calls.{calledOf, lentAfter}
+use Rattle.desk.specs.Change.{changedBy, calledBy, Within}
 use Rattle.desk.specs.declared.Desk.{Desk}
 use Rattle.desk.specs.declared.Called.{Called}
+use Rattle.desk.specs.declared.change.Change.{Change}
 use Rattle.order_text.specs.Text.{hexText}
 use Rattle.order_text.specs.Lines.{Line, good, bad}
 use Rattle.order_run.specs.Entry.{formOf}
@@ -95,6 +98,22 @@ unfoldable pub afterAll : ℕ → Desk → Said
 afterAll phase d =
     pick (eqb phase 0) (failed d)
     (last (called d (leave 0) .desk) (called d (leave 0) .answer .number ∷ []))
+
+-- ---- what the functions promise that read a line
+
+-- a change at the desk d says x, where the data buffer then holds kept
+pub record Says (d : Desk) (x : Said) (c : Change) (kept : List ℕ) : Type 0 where
+  pub told : afterReceive (calledBy c d) kept ≡ x
+  pub good : Good (changedBy c d)
+  pub within : Within c
+
+-- and says it whatever the data buffer holds
+abbrev pub Enters : Desk → Said → Change → Type 0
+Enters d x c = (kept : List ℕ) → Says d x c kept
+
+-- a reply is still due, and one slot is all that changes
+abbrev pub quiet : Change → Bool
+quiet c = pick (eqb (c .answer .number) 0x02) (pick (c .kept) false (leb (c .last) (c .first))) false
 
 -- ---- what the functions promise that print from a place on
 

@@ -5,6 +5,8 @@ pub mod entry;
 pub mod turns;
 
 use desk::Desk;
+use desk::change::Change;
+use desk::change::stays;
 use digits::Part;
 use digits::digit_table;
 use digits::further;
@@ -16,16 +18,18 @@ use digits::put;
 use digits::whole_bytes;
 use turns::ENTRY;
 use turns::OVER;
-use turns::Turn;
+use turns::REPLY;
 use turns::all_read;
 use turns::frame_read;
+use turns::is_quiet;
 use turns::last_number;
 use turns::least;
+use turns::print_answer;
 ghost use mathlib.Core.Path.{_≡_};
 ghost use Prim.Native.Nat.{_+_, _*_, _≤_};
 ghost use lib.ListN.{length, take};
 ghost use Rattle.desk.specs.Record.{Good};
-ghost use Rattle.order_run.specs.Turns.{Turned};
+ghost use Rattle.order_run.specs.Turns.{Says};
 ghost use Rattle.order_run.specs.Feed.{stOf, st, after, lineEnded, finished, endSaid, endKept, Begun, Table, Going, Starts, Feeds};
 
 // The most characters of a piece, and the room for what a piece prints: a request for each of them, 33 characters, and the longest line
@@ -59,26 +63,17 @@ pub fn start() -> Run
     }
 }
 
-fn line_end(
-    desk: Desk,
-    phase: u8,
-    part: Part,
-    frame: &[u8],
-    data: &mut [u8],
-    out: &mut [u8],
-    at: usize,
-) -> Turn
+fn line_end(desk: Desk, phase: u8, part: Part, frame: &[u8], data: &mut [u8]) -> Change
     requires { ⌜ Good desk ⌝ }
     requires { ⌜ Begun part ⌝ }
     requires { ⌜ (length (now frame) ≡ 1486) × (length (now «data») ≡ 4096) ⌝ }
-    requires { ⌜ at + 8195 ≤ length (now out) ⌝ }
-    ensures { λ r. ⌜ Turned (endSaid (st desk phase part (now (frame .entry)) (now («data» .entry)))) at r (now (out .entry)) (now (out .exit)) × (now («data» .exit) ≡ endKept (st desk phase part (now (frame .entry)) (now («data» .entry)))) ⌝ }
+    ensures { λ r. ⌜ Says desk (endSaid (st desk phase part (now (frame .entry)) (now («data» .entry)))) r (now («data» .exit)) × (now («data» .exit) ≡ endKept (st desk phase part (now (frame .entry)) (now («data» .entry)))) ⌝ }
 {
     if is_whole(part) {
         let count = part.count;
-        return frame_read(desk, phase, &frame[..count], data, out, at);
+        return frame_read(desk, phase, &frame[..count], data);
     }
-    last_number(desk, 0xff, out, at)
+    stays(0xff)
 }
 
 // "nested loops over lines and digits, left by a label at the first bad character"
@@ -128,11 +123,21 @@ fn feed_piece(
             i += 2 * more;
         }
         if i < text.len() {
-            let turn = line_end(desk, phase, part, frame, data, out, printed);
-            desk = turn.desk;
-            phase = turn.phase;
+            let change = line_end(desk, phase, part, frame, data);
+            if is_quiet(change) {
+                let at = change.at;
+                let slot = change.slot;
+                desk.line[at] = slot;
+                desk.waiting = change.waiting;
+                desk.counter = change.counter;
+                phase = REPLY;
+            } else {
+                let turn = print_answer(desk, change, data, out, printed);
+                desk = turn.desk;
+                phase = turn.phase;
+                printed = turn.end;
+            }
             part = nothing();
-            printed = turn.end;
             i += 1;
         }
     }

@@ -2,13 +2,17 @@
 use crate::entry::Form;
 use crate::entry::form_of;
 use desk::Desk;
+use desk::change::Change;
+use desk::change::changed;
+use desk::change::stays;
 ghost use mathlib.Core.Path.{_≡_};
 ghost use mathlib.Core.List.{[], _∷_};
 ghost use Prim.Native.Nat.{_+_, _*_, _≤_, min};
 ghost use lib.ListN.{length, take};
 ghost use Rattle.wire.specs.Store.{laid};
 ghost use Rattle.desk.specs.Record.{Good};
-ghost use Rattle.order_run.specs.Turns.{lineText, last, request as Turns·request, afterForm, afterReply, keptReply, afterFrame, keptFrame, afterAll, Turned};
+ghost use Rattle.desk.specs.Change.{Within, changedBy, calledBy};
+ghost use Rattle.order_run.specs.Turns.{lineText, last, request as Turns·request, afterForm, afterReceive, afterFrame, keptFrame, afterAll, quiet, Says, Enters, Turned};
 ghost use Rattle.order_run.specs.Entry.{formOf};
 
 // The seat of document 01's order program.
@@ -90,33 +94,63 @@ fn done(desk: Desk, payload: u32, data: &[u8], out: &mut [u8], at: usize) -> Tur
     }
 }
 
-fn entry_read(desk: Desk, frame: &[u8], out: &mut [u8], at: usize) -> Turn
+// A bad entry leaves the desk and is ff.
+fn entry_read(desk: Desk, frame: &[u8]) -> Change
     requires { ⌜ Good desk ⌝ }
-    requires { ⌜ at + 33 ≤ length (now out) ⌝ }
-    ensures { λ r. ⌜ Turned (afterForm desk (formOf (now (frame .entry)))) at r (now (out .entry)) (now (out .exit)) ⌝ }
+    ensures { λ r. ⌜ Enters desk (afterForm desk (formOf (now (frame .entry)))) r ⌝ }
 {
     let form = form_of(frame);
     let Form::Listed(order) = form else {
-        return last_number(desk, 0xff, out, at);
+        return stays(0xff);
     };
-    let entered = desk.enter(SEAT, order);
-    let answer = entered.answer;
-    let after = entered.desk;
+    let change = desk.entering(SEAT, order);
+    let answer = change.answer;
     if answer.number == 0x01 {
-        return request(after, out, at);
+        return change;
     }
-    last_number(after, 0xff, out, at)
+    stays(0xff)
 }
 
-fn reply_read(desk: Desk, frame: &[u8], data: &mut [u8], out: &mut [u8], at: usize) -> Turn
+// What a line changes at the desk: small, where the desk handed on by value would be copied at each hand.
+pub(crate) fn frame_read(desk: Desk, phase: u8, frame: &[u8], data: &mut [u8]) -> Change
     requires { ⌜ Good desk ⌝ }
+    ensures { λ r. ⌜ Says desk (afterFrame phase desk (now (frame .entry)) (now («data» .entry))) r (now («data» .exit)) × (now («data» .exit) ≡ keptFrame phase desk (now (frame .entry)) (now («data» .entry))) ⌝ }
+{
+    if phase == ENTRY {
+        return entry_read(desk, frame);
+    }
+    Desk::receiving(desk, SEAT, frame, data)
+}
+
+// Whether the reply is still due, and one slot of the desk all that changes.
+pub(crate) fn is_quiet(change: Change) -> bool
+    ensures { λ r. ⌜ r ≡ quiet change ⌝ }
+{
+    let answer = change.answer;
+    if answer.number == 0x02 {
+        if change.kept {
+            return false;
+        }
+        return change.last <= change.first;
+    }
+    false
+}
+
+pub(crate) fn print_answer(
+    desk: Desk,
+    change: Change,
+    data: &[u8],
+    out: &mut [u8],
+    at: usize,
+) -> Turn
+    requires { ⌜ Good (changedBy change desk) × Within change ⌝ }
     requires { ⌜ at + 33 ≤ length (now out) ⌝ }
     requires { ⌜ at + 2 * length (now «data») + 3 ≤ length (now out) ⌝ }
-    ensures { λ r. ⌜ Turned (afterReply desk (now (frame .entry)) (now («data» .entry))) at r (now (out .entry)) (now (out .exit)) × (now («data» .exit) ≡ keptReply desk (now (frame .entry)) (now («data» .entry))) ⌝ }
+    ensures { λ r. ⌜ Turned (afterReceive (calledBy change desk) (now («data» .entry))) at r (now (out .entry)) (now (out .exit)) ⌝ }
 {
-    let received = desk.receive(SEAT, frame, data);
-    let answer = received.answer;
-    let after = received.desk;
+    let called = changed(desk, change);
+    let answer = called.answer;
+    let after = called.desk;
     if answer.number == 0x00 {
         return done(after, answer.length, data, out, at);
     }
@@ -131,25 +165,6 @@ fn reply_read(desk: Desk, frame: &[u8], data: &mut [u8], out: &mut [u8], at: usi
         };
     }
     last_number(after, answer.number, out, at)
-}
-
-pub(crate) fn frame_read(
-    desk: Desk,
-    phase: u8,
-    frame: &[u8],
-    data: &mut [u8],
-    out: &mut [u8],
-    at: usize,
-) -> Turn
-    requires { ⌜ Good desk ⌝ }
-    requires { ⌜ at + 33 ≤ length (now out) ⌝ }
-    requires { ⌜ at + 2 * length (now «data») + 3 ≤ length (now out) ⌝ }
-    ensures { λ r. ⌜ Turned (afterFrame phase desk (now (frame .entry)) (now («data» .entry))) at r (now (out .entry)) (now (out .exit)) × (now («data» .exit) ≡ keptFrame phase desk (now (frame .entry)) (now («data» .entry))) ⌝ }
-{
-    if phase == ENTRY {
-        return entry_read(desk, frame, out, at);
-    }
-    reply_read(desk, frame, data, out, at)
 }
 
 // "Replies used up: it leaves, 03."

@@ -5,7 +5,9 @@ use Prim.Native.Nat.{ℕ, _+_, _-_, _*_}
 use native.Mathlib.Omega.{arith}
 use lib.ListN.{length, getD}
 use denote.Ref.{now}
-use Rattle.order_run.specs.Feed.{st, putPart, putFrame}
+use Rattle.order_run.specs.Turns.{Turned}
+use Rattle.order_run.specs.Feed.{st, putPart, putFrame, endSaid}
+use Rattle.order_run.proofs.Spoken.{turned-as, turned-at, quiet-turned}
 use Rattle.order_run.proofs.Characters.{put-digit, begun-put}
 use Rattle.order_run.proofs.Feeding.{Digits, Lines, lines-start, digits-start, through, digits-put, digits-whole, line-done, rested-over, rested-end, rested-bad}
 use Rattle.order_run.proofs.feed_piece.Statement.{statement}
@@ -101,26 +103,49 @@ loop-less : tie.Need-loop-less Inv-loop μ-loop Inv-lines μ-lines
 loop-less c = omega (arith, c .before .before .before .before .before .before .before .before .before .before .before .before .before .before .loop-test .taken)
 
 line-end-requires : tie.Need-line-end-requires Inv-loop μ-loop Inv-lines μ-lines
-line-end-requires c κs =
-    let i = c .before .before .before .before .before .loop .inv in
-    (i .good, (i .begun, ((i .long, c .before .before .before .before .before .before .before .before .before .before .before .before .before .lines .inv .keeps), i .room)))
+line-end-requires c κs = let i = c .before .before .before .before .loop .inv in (i .good, (i .begun, (i .long, c .before .before .before .before .before .before .before .before .before .before .before .before .lines .inv .keeps)))
 
 -- past the inner loop, with characters left, a line's end stands here
 newline : (c : tie.Then4 Inv-loop μ-loop Inv-lines μ-lines) → getD (now (c .before .before .before .before .before .before .before .before .before .before .before .before .before .before .before .before .before .args .text)) (c .before .before .loop .i) 0 ≡ 10
 newline c = ⊎-elim (λ w. absurd (omega (arith, w .left, c .if4 .taken))) (λ w. w .2 .taken) (c .before .loop-test .came)
 
+mul-slot : tie.Need-mul-slot Inv-loop μ-loop Inv-lines μ-lines
+mul-slot c = omega (arith, c .before .before .before .before .before .line-end .ensures .0 .within .lies)
+
+element-set-from-slot : tie.Need-element-set-from-slot Inv-loop μ-loop Inv-lines μ-lines
+element-set-from-slot c = c .before .before .before .before .before .line-end .ensures .0 .within .lies
+
+print-answer-requires : tie.Need-print-answer-requires Inv-loop μ-loop Inv-lines μ-lines
+print-answer-requires c κs =
+    let r = c .before .before .before .before .before .before .line-end in
+    let i = c .before .before .before .before .before .before .before .before .before .before .before .loop .inv in
+    ((r .ensures .0 .good, r .ensures .0 .within), (omega (arith, i .room), omega (arith, i .room, r .kept .1 .1 .1 .1 .0 ∙ c .before .before .before .before .before .before .before .before .before .before .before .before .before .before .before .before .before .before .before .lines .inv .keeps)))
+
+-- what the line has said, whichever way the desk was changed
+spoken : (c : tie.Joined5 Inv-loop μ-loop Inv-lines μ-lines)
+    → Turned (endSaid (st (c .before .before .before .before .before .before .before .before .before .loop .desk) (c .before .before .before .before .before .before .before .before .before .loop .phase) (c .before .before .before .before .before .before .before .before .before .loop .part) (c .before .before .before .before .before .before .before .before .before .loop .frame) (c .before .before .before .before .before .before .before .before .before .before .before .before .before .before .before .before .before .lines .«data»))) (c .before .before .before .before .before .before .before .before .before .loop .printed)
+    (record { desk = c .if5 .desk; phase = c .if5 .phase; end = c .if5 .printed }) (c .before .before .before .before .before .before .before .before .before .loop .out) (c .if5 .out)
+    × (length (c .if5 .out) ≡ length (c .before .before .before .before .before .before .before .before .before .loop .out))
+spoken c =
+    let l = c .before .before .before .before .before .before .before .before .before .loop in
+    let e = c .before .before .before .before .line-end .ensures .0 in
+    ⊎-elim
+    (λ w. (turned-at (w .3) (w .4) (w .5) (w .2) (quiet-turned (l .out) (l .printed) e (sym (c .before .is-quiet .ensures) ∙ w .0 .taken) (omega (arith, l .inv .room))), ap length (w .2)))
+    (λ w. (turned-at (w .8) (w .9) (w .10) (w .7) (turned-as (e .told) (w .3 .ensures)), ap length (w .7) ∙ w .3 .kept .1 .1 .1 .0))
+    (c .if5 .came)
+
 add-i-4 : tie.Need-add-i-4 Inv-loop μ-loop Inv-lines μ-lines
-add-i-4 c = omega (arith, c .before .before .before .before .before .before .before .before .before .before .if4 .taken, c .before .before .before .before .before .before .before .before .before .before .before .before .before .before .before .before .before .before .before .before .before .before .before .before .before .before .before .pre .1 .1 .0)
+add-i-4 c = omega (arith, c .before .before .before .before .before .before .before .before .if4 .taken, c .before .before .before .before .before .before .before .before .before .before .before .before .before .before .before .before .before .before .before .before .before .before .before .before .before .pre .1 .1 .0)
 
 lines-less : tie.Need-lines-less Inv-loop μ-loop Inv-lines μ-lines
-lines-less c = omega (arith, c .before .before .before .before .before .before .before .before .before .before .if4 .taken, c .before .before .before .before .before .before .before .before .before .before .before .before .loop .inv .onward)
+lines-less c = omega (arith, c .before .before .before .before .before .before .before .before .if4 .taken, c .before .before .before .before .before .before .before .before .before .before .loop .inv .onward)
 
 lines-again : tie.Need-lines-again Inv-loop μ-loop Inv-lines μ-lines
 lines-again c =
-    let D = c .before .before .before .before .before .before .before .before .before .before .before .before .loop .inv in
-    let e = c .before .before .before .before .before .before .line-end in
-    line-done (through (through (c .before .before .before .before .before .before .before .before .before .before .before .before .before .before .before .before .before .before .before .before .lines .inv) (entered (c .before .before .before .before .before .before .before .before .before .before .before .before .before))) D) (c .before .before .before .before .before .before .before .before .before .before .if4 .taken) (newline (c .before .before .before .before .before .before .before .before .before .before)) (D .going) (e .ensures .0) (e .ensures .1)
-    (e .kept .1 .1 .1 .1 .0) (e .kept .1 .1 .1 .1 .1 .0) (c .nothing2 .ensures)
+    let D = c .before .before .before .before .before .before .before .before .before .before .loop .inv in
+    let e = c .before .before .before .before .before .line-end in
+    let w = spoken (c .before) in
+    line-done (through (through (c .before .before .before .before .before .before .before .before .before .before .before .before .before .before .before .before .before .before .lines .inv) (entered (c .before .before .before .before .before .before .before .before .before .before .before))) D) (c .before .before .before .before .before .before .before .before .if4 .taken) (newline (c .before .before .before .before .before .before .before .before)) (D .going) (w .0) (e .ensures .1) (e .kept .1 .1 .1 .1 .0) (w .1) (c .nothing2 .ensures)
 
 lines-less-2 : tie.Need-lines-less-2 Inv-loop μ-loop Inv-lines μ-lines
 lines-less-2 c = omega (arith, c .if4 .left, c .before .before .before .before .before .before .before .before .before .lines-test .taken)
@@ -172,6 +197,10 @@ feed-piece-spec =
     loop-less
     loop-again
     line-end-requires
+    (λ c κs. tt)
+    mul-slot
+    element-set-from-slot
+    print-answer-requires
     (λ c κs. tt)
     add-i-4
     lines-less
