@@ -1,13 +1,11 @@
 -- What the change that a line makes at the desk says, by what the desk's calls promised. Assumes nothing.
 use Prim.Native.Nat.{ℕ}
 use mathlib.Core.Path.{_≡_, refl, sym, ap, _∙_, subst}
-use mathlib.Core.Bool.{true, false}
 use mathlib.Core.List.{List}
 use native.Mathlib.Omega.{arith}
 use borrow.Author.Tests.{eq-eqb, ne-eqb}
 use Rattle.wire.specs.Words.{pick}
 use Rattle.wire.proofs.Cases.{by}
-use Rattle.line.specs.Machine.{refuse}
 use Rattle.line.specs.Line.{seated}
 use Rattle.line.specs.Desk.{Outcome, enter, receive, step}
 use Rattle.line.specs.Transfers.{seatOf}

@@ -122,7 +122,7 @@ pub(crate) fn frame_read(desk: Desk, phase: u8, frame: &[u8], data: &mut [u8]) -
     Desk::receiving(desk, SEAT, frame, data)
 }
 
-// Whether the reply is still due, and one slot of the desk all that changes.
+// Whether the reply is still due, and one slot of the desk all that changes: the desk is then changed where it lies.
 pub(crate) fn is_quiet(change: Change) -> bool
     ensures { λ r. ⌜ r ≡ quiet change ⌝ }
 {
