@@ -1,7 +1,7 @@
 // The writers: the number, the first sixteen bytes behind the buffer's start, its last byte and the byte behind it.
 use crate::FILL;
 use crate::show;
-use mailbox::headers::SubIndex;
+use mailbox::sub_index::SubIndex;
 use services::Request;
 use services::Wrote;
 

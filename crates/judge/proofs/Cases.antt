@@ -12,8 +12,8 @@ use Rattle.wire.specs.Words.{pick}
 use Rattle.wire.proofs.Cases.{by}
 use Rattle.mailbox.specs.Fields.{the, completeSize}
 use Rattle.mailbox.specs.Numbers.{serviceNumber, commandNumber, operationNumber}
-use Rattle.mailbox.specs.declared.headers.CoeService.{CoeService}
-use Rattle.mailbox.specs.declared.headers.CoeCommand.{CoeCommand}
+use Rattle.mailbox.specs.declared.numbers.CoeService.{CoeService}
+use Rattle.mailbox.specs.declared.numbers.CoeCommand.{CoeCommand}
 use Rattle.judge.specs.Places.{emergencyLeast, abortLeast, downloadLeast, expeditedAt, normalAt, normalLeast, segmentAt}
 use Rattle.judge.specs.Headers.{readHeaders, readSegmentHeaders, readInformationHeaders, wrongType, wrongAddress}
 use Rattle.judge.specs.Alarm.{emergencyIn, abortIn, alarmIn, unlessAlarm}

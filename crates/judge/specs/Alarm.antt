@@ -6,8 +6,8 @@ use lib.ListN.{length}
 use Rattle.wire.specs.Words.{pick}
 use Rattle.mailbox.specs.Fields.{the, index, subIndex, abortCode, emergencyCode, errorRegister}
 use Rattle.mailbox.specs.Numbers.{serviceNumber, commandNumber}
-use Rattle.mailbox.specs.declared.headers.CoeService.{CoeService}
-use Rattle.mailbox.specs.declared.headers.CoeCommand.{CoeCommand}
+use Rattle.mailbox.specs.declared.numbers.CoeService.{CoeService}
+use Rattle.mailbox.specs.declared.numbers.CoeCommand.{CoeCommand}
 use Rattle.judge.specs.Places.{emergencyLeast, abortLeast}
 use Rattle.judge.specs.declared.Verdict.{Verdict}
 use Rattle.judge.specs.declared.Verdict.the-variants.{Refused, Emergency, Aborted}

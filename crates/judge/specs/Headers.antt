@@ -10,18 +10,18 @@ use Rattle.mailbox.specs.Headers.{readMailboxHeader, readCoeHeader, readSdoHead
 use Rattle.mailbox.specs.declared.MailboxHeader.{MailboxHeader}
 use Rattle.mailbox.specs.declared.MailboxHeaderRead.{MailboxHeaderRead}
 use Rattle.mailbox.specs.declared.MailboxHeaderRead.the-variants as MailboxHeaderRead
-use Rattle.mailbox.specs.declared.headers.CoeHeader.{CoeHeader}
-use Rattle.mailbox.specs.declared.headers.CoeHeaderRead.{CoeHeaderRead}
-use Rattle.mailbox.specs.declared.headers.CoeHeaderRead.the-variants as CoeHeaderRead
-use Rattle.mailbox.specs.declared.headers.SdoHeader.{SdoHeader}
-use Rattle.mailbox.specs.declared.headers.SdoHeaderRead.{SdoHeaderRead}
-use Rattle.mailbox.specs.declared.headers.SdoHeaderRead.the-variants as SdoHeaderRead
-use Rattle.mailbox.specs.declared.headers.SdoHeaderSegmented.{SdoHeaderSegmented}
-use Rattle.mailbox.specs.declared.headers.SdoHeaderSegmentedRead.{SdoHeaderSegmentedRead}
-use Rattle.mailbox.specs.declared.headers.SdoHeaderSegmentedRead.the-variants as SdoHeaderSegmentedRead
-use Rattle.mailbox.specs.declared.headers.SdoInfoHeader.{SdoInfoHeader}
-use Rattle.mailbox.specs.declared.headers.SdoInfoHeaderRead.{SdoInfoHeaderRead}
-use Rattle.mailbox.specs.declared.headers.SdoInfoHeaderRead.the-variants as SdoInfoHeaderRead
+use Rattle.mailbox.specs.declared.coe.CoeHeader.{CoeHeader}
+use Rattle.mailbox.specs.declared.coe.CoeHeaderRead.{CoeHeaderRead}
+use Rattle.mailbox.specs.declared.coe.CoeHeaderRead.the-variants as CoeHeaderRead
+use Rattle.mailbox.specs.declared.sdo.SdoHeader.{SdoHeader}
+use Rattle.mailbox.specs.declared.sdo.SdoHeaderRead.{SdoHeaderRead}
+use Rattle.mailbox.specs.declared.sdo.SdoHeaderRead.the-variants as SdoHeaderRead
+use Rattle.mailbox.specs.declared.segment.SdoHeaderSegmented.{SdoHeaderSegmented}
+use Rattle.mailbox.specs.declared.segment.SdoHeaderSegmentedRead.{SdoHeaderSegmentedRead}
+use Rattle.mailbox.specs.declared.segment.SdoHeaderSegmentedRead.the-variants as SdoHeaderSegmentedRead
+use Rattle.mailbox.specs.declared.information.SdoInfoHeader.{SdoInfoHeader}
+use Rattle.mailbox.specs.declared.information.SdoInfoHeaderRead.{SdoInfoHeaderRead}
+use Rattle.mailbox.specs.declared.information.SdoInfoHeaderRead.the-variants as SdoInfoHeaderRead
 use Rattle.judge.specs.Places.{segmentLeast}
 use Rattle.judge.specs.declared.headers.Headers.{Headers}
 use Rattle.judge.specs.declared.headers.HeadersRead.{HeadersRead}

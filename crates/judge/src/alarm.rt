@@ -7,8 +7,8 @@ use crate::places::EMERGENCY_LEAST;
 use crate::places::ERROR_REGISTER;
 use crate::places::INDEX;
 use crate::places::SUB_INDEX;
-use mailbox::headers::CoeCommand;
-use mailbox::headers::CoeService;
+use mailbox::numbers::CoeCommand;
+use mailbox::numbers::CoeService;
 ghost use mathlib.Core.Path.{_≡_};
 ghost use Rattle.judge.specs.Alarm.{emergencyIn, abortIn, alarmIn};
 

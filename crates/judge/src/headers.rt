@@ -2,15 +2,15 @@
 use crate::places::SDO_LEAST;
 use mailbox::MailboxHeader;
 use mailbox::MailboxHeaderRead;
-use mailbox::headers::CoeHeader;
-use mailbox::headers::CoeHeaderRead;
-use mailbox::headers::CoeService;
-use mailbox::headers::SdoHeader;
-use mailbox::headers::SdoHeaderRead;
-use mailbox::headers::SdoHeaderSegmented;
-use mailbox::headers::SdoHeaderSegmentedRead;
-use mailbox::headers::SdoInfoHeader;
-use mailbox::headers::SdoInfoHeaderRead;
+use mailbox::coe::CoeHeader;
+use mailbox::coe::CoeHeaderRead;
+use mailbox::information::SdoInfoHeader;
+use mailbox::information::SdoInfoHeaderRead;
+use mailbox::numbers::CoeService;
+use mailbox::sdo::SdoHeader;
+use mailbox::sdo::SdoHeaderRead;
+use mailbox::segment::SdoHeaderSegmented;
+use mailbox::segment::SdoHeaderSegmentedRead;
 ghost use mathlib.Core.Path.{_≡_};
 ghost use Rattle.judge.specs.Headers.{readHeaders, readSegmentHeaders, readInformationHeaders, wrongType, wrongAddress};
 

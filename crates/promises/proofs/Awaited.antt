@@ -9,8 +9,8 @@ use lib.ListN.{getD}
 use Rattle.wire.specs.Words.{pick}
 use Rattle.wire.proofs.Cases.{by}
 use Rattle.mailbox.specs.Headers.{subIndexOf}
-use Rattle.mailbox.specs.declared.headers.SubIndex.{SubIndex}
-use Rattle.mailbox.specs.declared.headers.SubIndex.the-variants.{Complete, Index}
+use Rattle.mailbox.specs.declared.sub_index.SubIndex.{SubIndex}
+use Rattle.mailbox.specs.declared.sub_index.SubIndex.the-variants.{Complete, Index}
 use Rattle.services.specs.Requests.{packedOf}
 use Rattle.transfer.specs.Stage.{firstRequestDue, firstReplyDue, segmentRequestDue, segmentReplyDue}
 use Rattle.transfer.specs.Entry.{kindOf, outside, unfitAs, unfitOf}

@@ -15,18 +15,18 @@ use Rattle.mailbox.specs.Numbers as names
 use Rattle.mailbox.specs.Headers.{readMailboxHeader, mailboxHeaderOf, readCoeHeader, coeHeaderOf, readSdoHeader, sdoHeaderOf, readSegmented, segmentedOf, readSdoInfo, sdoInfoOf}
 use Rattle.mailbox.specs.declared.MailboxHeaderRead.{MailboxHeaderRead}
 use Rattle.mailbox.specs.declared.MailboxHeaderRead.the-variants as MailboxHeaderRead
-use Rattle.mailbox.specs.declared.MailboxType.{MailboxType}
-use Rattle.mailbox.specs.declared.ListedType.{ListedType}
-use Rattle.mailbox.specs.declared.ListedType.the-variants as ListedType
-use Rattle.mailbox.specs.declared.headers.CoeHeaderRead.{CoeHeaderRead}
-use Rattle.mailbox.specs.declared.headers.CoeHeaderRead.the-variants as CoeHeaderRead
-use Rattle.mailbox.specs.declared.headers.CoeService.{CoeService}
-use Rattle.mailbox.specs.declared.headers.ListedService.{ListedService}
-use Rattle.mailbox.specs.declared.headers.ListedService.the-variants as ListedService
-use Rattle.mailbox.specs.declared.headers.ListedCommand.{ListedCommand}
-use Rattle.mailbox.specs.declared.headers.ListedCommand.the-variants as ListedCommand
-use Rattle.mailbox.specs.declared.headers.ListedOpCode.{ListedOpCode}
-use Rattle.mailbox.specs.declared.headers.ListedOpCode.the-variants as ListedOpCode
+use Rattle.mailbox.specs.declared.numbers.MailboxType.{MailboxType}
+use Rattle.mailbox.specs.declared.numbers.ListedType.{ListedType}
+use Rattle.mailbox.specs.declared.numbers.ListedType.the-variants as ListedType
+use Rattle.mailbox.specs.declared.coe.CoeHeaderRead.{CoeHeaderRead}
+use Rattle.mailbox.specs.declared.coe.CoeHeaderRead.the-variants as CoeHeaderRead
+use Rattle.mailbox.specs.declared.numbers.CoeService.{CoeService}
+use Rattle.mailbox.specs.declared.numbers.ListedService.{ListedService}
+use Rattle.mailbox.specs.declared.numbers.ListedService.the-variants as ListedService
+use Rattle.mailbox.specs.declared.numbers.ListedCommand.{ListedCommand}
+use Rattle.mailbox.specs.declared.numbers.ListedCommand.the-variants as ListedCommand
+use Rattle.mailbox.specs.declared.numbers.ListedOpCode.{ListedOpCode}
+use Rattle.mailbox.specs.declared.numbers.ListedOpCode.the-variants as ListedOpCode
 use Rattle.judge.specs.Answers.{answerOf, oneOf}
 use Rattle.judge.specs.Headers.{onMailbox, onCoe, onSdo, onSegmented, onInfo, readHeaders, readSegmentHeaders, readInformationHeaders}
 use Rattle.judge.specs.Reply.{onHeaders}

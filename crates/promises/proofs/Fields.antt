@@ -12,7 +12,7 @@ use Rattle.wire.specs.Bytes.{Bytes, value, byteAt, window}
 use Rattle.wire.specs.Fields.{Field, end, read, Filled, packed, laidOut, clearOf}
 use Rattle.wire.proofs.Fields.{Row, cut, length-packed, bytes-bits, read-packed, read-skipped, read-within, read-whole}
 use Rattle.mailbox.specs.Fields.{Name, place, the}
-use Rattle.mailbox.specs.declared.headers.SubIndex.the-variants.{Complete, Index}
+use Rattle.mailbox.specs.declared.sub_index.SubIndex.the-variants.{Complete, Index}
 use Rattle.services.specs.Requests.{packedOf, cutTo}
 use Rattle.promises.specs.Fields.{whole, ReadsLowFirst, LaidOut, widths, Packs, UploadPacks, DownloadPacks, SegmentPacks, InformationPacks}
 

@@ -12,12 +12,12 @@ use Rattle.wire.specs.Words.{pick, both}
 use Rattle.wire.proofs.Cases.{by}
 use Rattle.mailbox.specs.Fields.{the, lengthField, mailboxType, service, expedited, size, specifier, index, subIndex, lastSegment, unusedCount, operation, incomplete}
 use Rattle.mailbox.specs.Numbers.{serviceNumber, commandNumber}
-use Rattle.mailbox.specs.declared.MailboxType.{MailboxType}
-use Rattle.mailbox.specs.declared.ListedType.the-variants as ListedType
-use Rattle.mailbox.specs.declared.headers.CoeService.{CoeService}
-use Rattle.mailbox.specs.declared.headers.CoeCommand.{CoeCommand}
-use Rattle.mailbox.specs.declared.headers.ListedService.the-variants as ListedService
-use Rattle.mailbox.specs.declared.headers.ListedCommand.the-variants as ListedCommand
+use Rattle.mailbox.specs.declared.numbers.MailboxType.{MailboxType}
+use Rattle.mailbox.specs.declared.numbers.ListedType.the-variants as ListedType
+use Rattle.mailbox.specs.declared.numbers.CoeService.{CoeService}
+use Rattle.mailbox.specs.declared.numbers.CoeCommand.{CoeCommand}
+use Rattle.mailbox.specs.declared.numbers.ListedService.the-variants as ListedService
+use Rattle.mailbox.specs.declared.numbers.ListedCommand.the-variants as ListedCommand
 use Rattle.judge.specs.Answers.{answerOf}
 use Rattle.judge.specs.Headers.{wrongType, wrongAddress}
 use Rattle.judge.specs.Alarm.{emergencyIn, abortIn, alarmIn, unlessAlarm}

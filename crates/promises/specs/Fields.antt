@@ -8,8 +8,8 @@ use lib.ListN.{length}
 use Rattle.wire.specs.Bytes.{Bytes, byteAt}
 use Rattle.wire.specs.Fields.{Field, read}
 use Rattle.mailbox.specs.Fields.{Name, place, the, lengthField, priority, mailboxType, counter, service, sizeIndicator, expedited, size, completeAccess, specifier, index, subIndex, lastSegment, unusedCount, toggle, operation, incomplete, fragmentsLeft, listKind, expeditedData, completeSize, abortCode, emergencyCode, errorRegister}
-use Rattle.mailbox.specs.declared.headers.SubIndex.{SubIndex}
-use Rattle.mailbox.specs.declared.headers.SubIndex.the-variants.{Complete, Index}
+use Rattle.mailbox.specs.declared.sub_index.SubIndex.{SubIndex}
+use Rattle.mailbox.specs.declared.sub_index.SubIndex.the-variants.{Complete, Index}
 use Rattle.services.specs.Requests.{packedOf}
 use Rattle.services.specs.declared.Request.the-variants.{Upload, Download, Segment, Information}
 

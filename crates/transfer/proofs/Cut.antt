@@ -2,7 +2,7 @@
 use mathlib.Core.Path.{_≡_}
 use Prim.Native.Nat.{ℕ, _^_}
 use native.Mathlib.Nat.{mod-mod}
-use Rattle.mailbox.specs.declared.headers.SubIndex.{SubIndex}
+use Rattle.mailbox.specs.declared.sub_index.SubIndex.{SubIndex}
 use Rattle.services.specs.Requests.{cutTo, packedOf}
 use Rattle.services.specs.declared.Request.the-variants.{Download}
 

@@ -2,7 +2,7 @@
 use crate::Order;
 use crate::Transfer;
 use crate::stage::FIRST_REQUEST;
-use mailbox::headers::SubIndex;
+use mailbox::sub_index::SubIndex;
 ghost use mathlib.Core.Path.{_≡_};
 ghost use Rattle.transfer.specs.Entry.{kindOf, outside, unfitOf, openedOf};
 
