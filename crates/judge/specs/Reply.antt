@@ -1,9 +1,11 @@
--- Rules 1 to 4 of "Judging a reply" together, as an upload and a download share them. Assumes nothing.
+-- Rules 1 to 4 of "Judging a reply" in their order, and together as an upload and a download share them. Assumes nothing.
+use mathlib.Core.Bool.{Bool}
 use mathlib.Core.List.{List}
 use Prim.Native.Nat.{ℕ}
 use Rattle.wire.specs.Words.{pick}
 use Rattle.judge.specs.Headers.{readHeaders, wrongAddress}
 use Rattle.judge.specs.Alarm.{alarmIn, unlessAlarm}
+use Rattle.judge.specs.declared.alarm.Alarm.{Alarm}
 use Rattle.judge.specs.declared.Verdict.{Verdict}
 use Rattle.judge.specs.declared.Verdict.the-variants.{Refused}
 use Rattle.judge.specs.declared.headers.Headers.{Headers}
@@ -15,9 +17,11 @@ abbrev pub onHeaders : HeadersRead → (Headers → Verdict) → Verdict
 onHeaders HeadersRead.Undecodable f = Refused 0x20
 onHeaders (HeadersRead.Headers h) f = f h
 
--- then an alarm; then "Type not 3, or .. index or sub-index not the request's: 23"; and else what the kind's own rule, f, says
+-- behind the headers an alarm; then "Type not 3, or .. index or sub-index not the request's: 23"; and else what the kind's own rule says
+abbrev pub inOrder : Alarm → Bool → Verdict → Verdict
+inOrder alarm wrong own = unlessAlarm alarm (pick wrong (Refused 0x23) own)
+
 unfoldable pub replyTo : ℕ → ℕ → List ℕ → (Headers → Verdict) → Verdict
 replyTo index sub s f =
     onHeaders (readHeaders s) λ h.
-    unlessAlarm (alarmIn s (h .service) (h .sdo .command))
-    (pick (wrongAddress h index sub) (Refused 0x23) (f h))
+    inOrder (alarmIn s (h .service) (h .sdo .command)) (wrongAddress h index sub) (f h)

@@ -6,7 +6,8 @@ use lib.ListN.{length}
 use Rattle.wire.specs.Words.{pick}
 use Rattle.judge.specs.Places.{segmentAt}
 use Rattle.judge.specs.Headers.{readSegmentHeaders, wrongType}
-use Rattle.judge.specs.Alarm.{alarmIn, unlessAlarm}
+use Rattle.judge.specs.Alarm.{alarmIn}
+use Rattle.judge.specs.Reply.{inOrder}
 use Rattle.judge.specs.Chunk.{chunkAt, onChunk}
 use Rattle.judge.specs.declared.Verdict.{Verdict}
 use Rattle.judge.specs.declared.Verdict.the-variants.{Refused, Segment}
@@ -34,5 +35,4 @@ onSegmentHeaders (SegmentHeadersRead.Headers h) f = f h
 unfoldable pub judgeSegment : ℕ → ℕ → List ℕ → Verdict
 judgeSegment earlier n s =
     onSegmentHeaders (readSegmentHeaders s) λ h.
-    unlessAlarm (alarmIn s (h .service) (h .segment .command))
-    (pick (wrongType (h .mailbox)) (Refused 0x23) (segmentOf (length s) h earlier n))
+    inOrder (alarmIn s (h .service) (h .segment .command)) (wrongType (h .mailbox)) (segmentOf (length s) h earlier n)

@@ -70,17 +70,6 @@ returns-4 c =
 
 pub entering-spec : {M : Type 1} → statement M
 entering-spec =
-    tie.close
-    (tie.spec
-    (λ c κs. tt)
-    returns
-    place-requires
-    (λ c κs. tt)
-    returns-2
-    (λ c κs. tt)
-    (λ c. search needs)
-    (λ c κs. tt)
-    (λ c. search needs)
-    joins-requires
-    returns-3
-    returns-4)
+    let enum-known-start : tie.Need-enum-known-start = λ c. search needs in
+    let enum-known-start-2 : tie.Need-enum-known-start-2 = λ c. search needs in
+    tie.close (search (tie.spec, returns, place-requires, returns-2, enum-known-start, enum-known-start-2, joins-requires, returns-3, returns-4))

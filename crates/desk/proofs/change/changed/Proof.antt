@@ -77,21 +77,4 @@ returns-2 c =
     rw (e .if1 .left, a .loop .inv .2, i)
 
 pub changed-spec : {M : Type 1} → statement M
-changed-spec =
-    tie.close
-    (tie.spec
-    Inv-loop
-    μ-loop
-    returns
-    loop-holds
-    add-t
-    mul-t
-    element-copy-out-t
-    mul-t-2
-    element-set-from-t
-    add-i
-    loop-less
-    loop-again
-    mul-slot
-    element-set-from-slot
-    returns-2)
+changed-spec {M} = tie.close (search (tie.spec {M = M} Inv-loop μ-loop, returns, loop-holds, add-t, mul-t, element-copy-out-t, mul-t-2, element-set-from-t, add-i, loop-less, loop-again, mul-slot, element-set-from-slot, returns-2))

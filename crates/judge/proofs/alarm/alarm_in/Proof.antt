@@ -21,13 +21,4 @@ returns-3 c =
     simp (← numbered .number .ensures, ne-eqb _ _ (c .before .before .if1 .left), ← c .before .number2 .ensures, ne-eqb _ _ (c .if2 .left))
 
 pub alarm-in-spec : {M : Type 1} → statement M
-alarm-in-spec =
-    tie.close
-    (tie.spec
-    (λ c κs. tt)
-    (λ c κs. tt)
-    returns
-    (λ c κs. tt)
-    (λ c κs. tt)
-    returns-2
-    returns-3)
+alarm-in-spec = tie.close (search (tie.spec, returns, returns-2, returns-3))

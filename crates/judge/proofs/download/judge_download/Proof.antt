@@ -32,17 +32,5 @@ returns-4 c =
 
 pub judge-download-spec : {M : Type 1} → statement M
 judge-download-spec =
-    tie.close
-    (tie.spec
-    (λ c κs. tt)
-    (λ c. search needs)
-    (λ c. search needs)
-    returns
-    (λ c κs. tt)
-    (λ c. search needs)
-    returns-2
-    (λ c. search needs)
-    (λ c κs. tt)
-    returns-3
-    (λ c κs. tt)
-    returns-4)
+    let told : tie.Need-enum-known-h × tie.Need-enum-told × tie.Need-enum-known-verdict × tie.Need-enum-told-2 = search needs in
+    tie.close (search (tie.spec, told, returns, returns-2, returns-3, returns-4))

@@ -23,12 +23,6 @@ returns-3 c =
 
 pub fragment-spec : {M : Type 1} → statement M
 fragment-spec =
-    tie.close
-    (tie.spec
-    returns
-    (λ c κs. tt)
-    (λ c κs. tt)
-    (λ c. search needs)
-    (λ c. search needs)
-    returns-2
-    returns-3)
+    let enum-known-sum : tie.Need-enum-known-sum = λ c. search needs in
+    let enum-told : tie.Need-enum-told = λ c. search needs in
+    tie.close (search (tie.spec, returns, enum-known-sum, enum-told, returns-2, returns-3))

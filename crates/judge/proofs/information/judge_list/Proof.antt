@@ -24,14 +24,6 @@ returns-3 c =
 
 pub judge-list-spec : {M : Type 1} → statement M
 judge-list-spec =
-    tie.close
-    (tie.spec
-    (λ c κs. tt)
-    (λ c. search needs)
-    (λ c. search needs)
-    returns
-    (λ c κs. tt)
-    (λ c κs. tt)
-    (λ c κs. tt)
-    returns-2
-    returns-3)
+    let enum-known-h : tie.Need-enum-known-h = λ c. search needs in
+    let enum-told : tie.Need-enum-told = λ c. search needs in
+    tie.close (search (tie.spec, enum-known-h, enum-told, returns, returns-2, returns-3))

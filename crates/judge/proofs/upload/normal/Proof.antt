@@ -43,13 +43,6 @@ returns-4 c =
 
 pub normal-spec : {M : Type 1} → statement M
 normal-spec =
-    tie.close
-    (tie.spec
-    returns
-    (λ c κs. tt)
-    returns-2
-    (λ c κs. tt)
-    (λ c. search needs)
-    (λ c κs. search needs)
-    returns-3
-    returns-4)
+    let cast-if3 : tie.Need-cast-if3 = λ c. search needs in
+    let whole-requires : tie.Need-whole-requires = λ c κs. search needs in
+    tie.close (search (tie.spec, returns, returns-2, cast-if3, whole-requires, returns-3, returns-4))
