@@ -8,20 +8,20 @@ use Rattle.wire.specs.Words.{pick, either}
 use Rattle.mailbox.specs.Numbers.{typeNumber}
 use Rattle.mailbox.specs.Headers.{readMailboxHeader, readCoeHeader, readSdoHeader, readSegmented, readSdoInfo}
 use Rattle.mailbox.specs.declared.MailboxHeader.{MailboxHeader}
-use Rattle.mailbox.specs.declared.MailboxHeaderRead.{MailboxHeaderRead}
-use Rattle.mailbox.specs.declared.MailboxHeaderRead.the-variants as MailboxHeaderRead
+use Rattle.mailbox.specs.declared.outcome.MailboxHeaderRead.{MailboxHeaderRead}
+use Rattle.mailbox.specs.declared.outcome.MailboxHeaderRead.the-variants as MailboxHeaderRead
 use Rattle.mailbox.specs.declared.coe.CoeHeader.{CoeHeader}
-use Rattle.mailbox.specs.declared.coe.CoeHeaderRead.{CoeHeaderRead}
-use Rattle.mailbox.specs.declared.coe.CoeHeaderRead.the-variants as CoeHeaderRead
+use Rattle.mailbox.specs.declared.outcome.CoeHeaderRead.{CoeHeaderRead}
+use Rattle.mailbox.specs.declared.outcome.CoeHeaderRead.the-variants as CoeHeaderRead
 use Rattle.mailbox.specs.declared.sdo.SdoHeader.{SdoHeader}
-use Rattle.mailbox.specs.declared.sdo.SdoHeaderRead.{SdoHeaderRead}
-use Rattle.mailbox.specs.declared.sdo.SdoHeaderRead.the-variants as SdoHeaderRead
+use Rattle.mailbox.specs.declared.outcome.SdoHeaderRead.{SdoHeaderRead}
+use Rattle.mailbox.specs.declared.outcome.SdoHeaderRead.the-variants as SdoHeaderRead
 use Rattle.mailbox.specs.declared.segment.SdoHeaderSegmented.{SdoHeaderSegmented}
-use Rattle.mailbox.specs.declared.segment.SdoHeaderSegmentedRead.{SdoHeaderSegmentedRead}
-use Rattle.mailbox.specs.declared.segment.SdoHeaderSegmentedRead.the-variants as SdoHeaderSegmentedRead
+use Rattle.mailbox.specs.declared.outcome.SdoHeaderSegmentedRead.{SdoHeaderSegmentedRead}
+use Rattle.mailbox.specs.declared.outcome.SdoHeaderSegmentedRead.the-variants as SdoHeaderSegmentedRead
 use Rattle.mailbox.specs.declared.information.SdoInfoHeader.{SdoInfoHeader}
-use Rattle.mailbox.specs.declared.information.SdoInfoHeaderRead.{SdoInfoHeaderRead}
-use Rattle.mailbox.specs.declared.information.SdoInfoHeaderRead.the-variants as SdoInfoHeaderRead
+use Rattle.mailbox.specs.declared.outcome.SdoInfoHeaderRead.{SdoInfoHeaderRead}
+use Rattle.mailbox.specs.declared.outcome.SdoInfoHeaderRead.the-variants as SdoInfoHeaderRead
 use Rattle.judge.specs.Places.{segmentLeast}
 use Rattle.judge.specs.declared.headers.Headers.{Headers}
 use Rattle.judge.specs.declared.headers.HeadersRead.{HeadersRead}

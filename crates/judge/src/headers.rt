@@ -1,16 +1,16 @@
 // Rule 1: the headers of a reply, each kind's together; and rule 4, whether they are those of the transfer that was asked.
 use crate::places::SDO_LEAST;
 use mailbox::MailboxHeader;
-use mailbox::MailboxHeaderRead;
 use mailbox::coe::CoeHeader;
-use mailbox::coe::CoeHeaderRead;
 use mailbox::information::SdoInfoHeader;
-use mailbox::information::SdoInfoHeaderRead;
 use mailbox::numbers::CoeService;
+use mailbox::outcome::CoeHeaderRead;
+use mailbox::outcome::MailboxHeaderRead;
+use mailbox::outcome::SdoHeaderRead;
+use mailbox::outcome::SdoHeaderSegmentedRead;
+use mailbox::outcome::SdoInfoHeaderRead;
 use mailbox::sdo::SdoHeader;
-use mailbox::sdo::SdoHeaderRead;
 use mailbox::segment::SdoHeaderSegmented;
-use mailbox::segment::SdoHeaderSegmentedRead;
 ghost use mathlib.Core.Path.{_≡_};
 ghost use Rattle.judge.specs.Headers.{readHeaders, readSegmentHeaders, readInformationHeaders, wrongType, wrongAddress};
 

@@ -1,16 +1,12 @@
 // The CoE header: the Rust's CoeHeader of coe/headers.rs.
 use crate::numbers::CoeService;
 use crate::numbers::ListedService;
+use crate::outcome::CoeHeaderRead;
 ghost use mathlib.Core.Path.{_≡_};
 ghost use Rattle.mailbox.specs.Headers.{coeHeaderBytes, readCoeHeader};
 
 pub struct CoeHeader {
     pub service: CoeService,
-}
-
-pub enum CoeHeaderRead {
-    Header(CoeHeader),
-    Undecodable,
 }
 
 impl CoeHeader {

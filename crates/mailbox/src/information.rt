@@ -2,6 +2,7 @@
 use crate::flag::bit_of;
 use crate::numbers::ListedOpCode;
 use crate::numbers::SdoInfoOpCode;
+use crate::outcome::SdoInfoHeaderRead;
 ghost use mathlib.Core.Path.{_≡_};
 ghost use Rattle.mailbox.specs.Headers.{sdoInfoBytes, readSdoInfo};
 
@@ -9,11 +10,6 @@ pub struct SdoInfoHeader {
     pub op_code: SdoInfoOpCode,
     pub incomplete: bool,
     pub fragments_left: u16,
-}
-
-pub enum SdoInfoHeaderRead {
-    Header(SdoInfoHeader),
-    Undecodable,
 }
 
 impl SdoInfoHeader {

@@ -2,6 +2,7 @@
 use crate::flag::bit_of;
 use crate::numbers::CoeCommand;
 use crate::numbers::ListedCommand;
+use crate::outcome::SdoHeaderRead;
 ghost use mathlib.Core.Path.{_≡_};
 ghost use Rattle.mailbox.specs.Headers.{sdoHeaderBytes, readSdoHeader};
 
@@ -13,11 +14,6 @@ pub struct SdoHeader {
     pub command: CoeCommand,
     pub index: u16,
     pub sub_index: u8,
-}
-
-pub enum SdoHeaderRead {
-    Header(SdoHeader),
-    Undecodable,
 }
 
 impl SdoHeader {

@@ -2,6 +2,7 @@
 use crate::flag::bit_of;
 use crate::numbers::CoeCommand;
 use crate::numbers::ListedCommand;
+use crate::outcome::SdoHeaderSegmentedRead;
 ghost use mathlib.Core.Path.{_≡_};
 ghost use Rattle.mailbox.specs.Headers.{segmentedBytes, readSegmented};
 
@@ -10,11 +11,6 @@ pub struct SdoHeaderSegmented {
     pub segment_data_size: u8,
     pub toggle: bool,
     pub command: CoeCommand,
-}
-
-pub enum SdoHeaderSegmentedRead {
-    Header(SdoHeaderSegmented),
-    Undecodable,
 }
 
 impl SdoHeaderSegmented {

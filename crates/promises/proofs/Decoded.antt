@@ -13,13 +13,13 @@ use Rattle.wire.proofs.Cases.{by}
 use Rattle.mailbox.specs.Fields.{the, mailboxType, service, specifier, operation}
 use Rattle.mailbox.specs.Numbers as names
 use Rattle.mailbox.specs.Headers.{readMailboxHeader, mailboxHeaderOf, readCoeHeader, coeHeaderOf, readSdoHeader, sdoHeaderOf, readSegmented, segmentedOf, readSdoInfo, sdoInfoOf}
-use Rattle.mailbox.specs.declared.MailboxHeaderRead.{MailboxHeaderRead}
-use Rattle.mailbox.specs.declared.MailboxHeaderRead.the-variants as MailboxHeaderRead
+use Rattle.mailbox.specs.declared.outcome.MailboxHeaderRead.{MailboxHeaderRead}
+use Rattle.mailbox.specs.declared.outcome.MailboxHeaderRead.the-variants as MailboxHeaderRead
 use Rattle.mailbox.specs.declared.numbers.MailboxType.{MailboxType}
 use Rattle.mailbox.specs.declared.numbers.ListedType.{ListedType}
 use Rattle.mailbox.specs.declared.numbers.ListedType.the-variants as ListedType
-use Rattle.mailbox.specs.declared.coe.CoeHeaderRead.{CoeHeaderRead}
-use Rattle.mailbox.specs.declared.coe.CoeHeaderRead.the-variants as CoeHeaderRead
+use Rattle.mailbox.specs.declared.outcome.CoeHeaderRead.{CoeHeaderRead}
+use Rattle.mailbox.specs.declared.outcome.CoeHeaderRead.the-variants as CoeHeaderRead
 use Rattle.mailbox.specs.declared.numbers.CoeService.{CoeService}
 use Rattle.mailbox.specs.declared.numbers.ListedService.{ListedService}
 use Rattle.mailbox.specs.declared.numbers.ListedService.the-variants as ListedService

@@ -5,10 +5,10 @@ use borrow.Author.Needs.{needs}
 use borrow.Author.Tests.{lt-ltb}
 use denote.Ref.{now}
 use Rattle.mailbox.specs.Headers.{readMailboxHeader, readCoeHeader, readSdoHeader}
-use Rattle.mailbox.specs.declared.MailboxHeaderRead.{MailboxHeaderRead}
-use Rattle.mailbox.specs.declared.MailboxHeaderRead.the-variants as MailboxHeaderRead
-use Rattle.mailbox.specs.declared.coe.CoeHeaderRead.{CoeHeaderRead}
-use Rattle.mailbox.specs.declared.coe.CoeHeaderRead.the-variants as CoeHeaderRead
+use Rattle.mailbox.specs.declared.outcome.MailboxHeaderRead.{MailboxHeaderRead}
+use Rattle.mailbox.specs.declared.outcome.MailboxHeaderRead.the-variants as MailboxHeaderRead
+use Rattle.mailbox.specs.declared.outcome.CoeHeaderRead.{CoeHeaderRead}
+use Rattle.mailbox.specs.declared.outcome.CoeHeaderRead.the-variants as CoeHeaderRead
 use Rattle.judge.specs.Headers.{onMailbox, onCoe, readHeaders}
 use Rattle.judge.specs.declared.headers.HeadersRead.the-variants as HeadersRead
 use Rattle.judge.proofs.headers.read_headers.Statement.{statement}
