@@ -7,13 +7,13 @@ use Rattle.line.specs.Desk.{Call, Outcome, enter, send, receive, leave, step}
 use Rattle.line.specs.Stand.{Event, trace}
 use Rattle.line.proofs.Moves.{Move, stays, joins, asks, hears, goes, move}
 use Rattle.transfer.specs.declared.Order.{Order}
-use Rattle.transfer.specs.Coe.{coeMachine}
+use Rattle.transfer.specs.Coe.{Told, coeMachine}
 use Rattle.desk.specs.Record.{Queue, viewOf}
 use Rattle.desk.specs.Calls.{lentAfter, calledOf, Fresh, Gives, GivesLent}
-use Rattle.desk.specs.Stand.{Told, lentBy, deskStand}
+use Rattle.desk.specs.Stand.{lentBy, deskStand}
 use Rattle.desk.specs.declared.Desk.{Desk}
 use Rattle.desk.specs.declared.Called.{Called}
-use Rattle.client.specs.Run.{event, callsOf, Run}
+use Rattle.client.specs.RunSeen.{event, callsOf, RunSeen}
 
 abbrev Events : Type 0
 Events = List (Event coeMachine Told)
@@ -61,7 +61,7 @@ pub four : (seat : ℕ) (order : Order) (frame reply buffer frame′ buffer′ :
     → GivesLent (a .desk) (send seat frame) b frame frame′
     → GivesLent (b .desk) (receive seat (reply, buffer)) c buffer buffer′
     → Gives (c .desk) (leave seat) e
-    → Run seat order frame reply buffer (record { entered = a .answer; sent = b .answer; received = c .answer; left = e .answer }) frame′ buffer′
+    → RunSeen seat order frame reply buffer (record { entered = a .answer; sent = b .answer; received = c .answer; left = e .answer }) frame′ buffer′
 unfolding trace lentBy
 four seat order frame reply buffer frame′ buffer′ d a b c e F A B C E =
     ap (λ (x : Desk). trace deskStand x (callsOf seat order frame reply buffer)) (sym (F .empty))

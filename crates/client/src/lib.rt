@@ -3,7 +3,7 @@
 use desk::Desk;
 use judge::Answer;
 use transfer::Order;
-ghost use Rattle.client.specs.Run.{Run};
+ghost use Rattle.client.specs.RunSeen.{RunSeen};
 
 // The answers in the order of the calls.
 #[repr(C)]
@@ -15,7 +15,7 @@ pub struct Seen {
 }
 
 pub fn run(seat: u8, order: Order, frame: &mut [u8], reply: &[u8], buffer: &mut [u8]) -> Seen
-    ensures { λ r. ⌜ Run seat order (now (frame .entry)) (now (reply .entry)) (now (buffer .entry)) r (now (frame .exit)) (now (buffer .exit)) ⌝ }
+    ensures { λ r. ⌜ RunSeen seat order (now (frame .entry)) (now (reply .entry)) (now (buffer .entry)) r (now (frame .exit)) (now (buffer .exit)) ⌝ }
 {
     let fresh = Desk::fresh();
     let first = fresh.enter(seat, order);

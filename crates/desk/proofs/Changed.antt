@@ -11,7 +11,7 @@ use Rattle.line.specs.Transfers.{seatOf}
 use Rattle.judge.specs.Answers.{plainOf}
 use Rattle.judge.specs.declared.Answer.{Answer}
 use Rattle.transfer.specs.declared.Transfer.{Transfer}
-use Rattle.transfer.specs.Coe.{coeMachine, Gives as Reply}
+use Rattle.transfer.specs.Coe.{coeMachine, Told as Reply}
 use Rattle.desk.specs.declared.record.Slot.{Slot}
 use Rattle.desk.specs.declared.change.Change.{Change}
 use Rattle.desk.specs.declared.Called.{Called}
@@ -45,10 +45,10 @@ module _ (d : Desk) (g : Good d) (k : Call coeMachine) where
   abbrev Ends : Outcome coeMachine → Type 0
   Ends o = step coeMachine (viewOf d) k .1 ≡ o
 
-  abbrev Gives : Answer → Desk → Type 0
-  Gives a e = calledAt a e ≡ calledOf (step coeMachine (viewOf d) k)
+  abbrev Gave : Answer → Desk → Type 0
+  Gave a e = calledAt a e ≡ calledOf (step coeMachine (viewOf d) k)
 
-  pub stays-is : (n : ℕ) → Ends (refused n) → Gives (plainOf n) d → Changes d k (staysAt n)
+  pub stays-is : (n : ℕ) → Ends (refused n) → Gave (plainOf n) d → Changes d k (staysAt n)
   unfolding changeOf
   stays-is n w e =
       changes d k (staysAt n) (refused n) (calledAt (plainOf n) d) w e refl refl
@@ -58,7 +58,7 @@ module _ (d : Desk) (g : Good d) (k : Call coeMachine) where
     abbrev x : Slot
     x = slotOf (s, t)
 
-    pub joins-is : d .waiting < 8 → Ends entered → Gives (plainOf 0x01) (joinedBy d s t) → Changes d k (joinsBy d s t)
+    pub joins-is : d .waiting < 8 → Ends entered → Gave (plainOf 0x01) (joinedBy d s t) → Changes d k (joinsBy d s t)
     unfolding changeOf
     joins-is h w e =
         let n = d .waiting in
@@ -81,11 +81,11 @@ module _ (d : Desk) (g : Good d) (k : Call coeMachine) where
           (ap (λ (l : List Slot). calledAt a (countedAt c (held l (d .waiting) d))) (put-line d 0 x))
           (record { ordered = omega arith; ends = omega arith; lies = omega arith })
 
-      pub sends-is : (f : List ℕ) → Ends (sent f) → Gives a (countedAt c (withHead d s t)) → Changes d k (headsBy a d s t c)
+      pub sends-is : (f : List ℕ) → Ends (sent f) → Gave a (countedAt c (withHead d s t)) → Changes d k (headsBy a d s t c)
       unfolding changeOf
       sends-is f w e = heads (sent f) w e (rw head-slot refl)
 
-      pub goes-on : (r : Reply) → Ends (received r) → Gives a (countedAt c (withHead d s t)) → Changes d k (headsBy a d s t c)
+      pub goes-on : (r : Reply) → Ends (received r) → Gave a (countedAt c (withHead d s t)) → Changes d k (headsBy a d s t c)
       unfolding changeOf
       goes-on r w e = heads (received r) w e (rw (le-ltb (d .waiting) (d .waiting) (omega arith), head-slot) refl)
 
@@ -107,10 +107,10 @@ module _ (d : Desk) (g : Good d) (k : Call coeMachine) where
         → closesAt a d n ≡ changeOf d (seatOf k) o ended → Changes d k (closesAt a d n)
     closes o w e i = changes d k (closesAt a d n) o ended w e i refl (record { ordered = omega arith; ends = small; lies = small })
 
-    pub leaves-is : Ends left → Gives a (closedAt d n) → Changes d k (closesAt a d n)
+    pub leaves-is : Ends left → Gave a (closedAt d n) → Changes d k (closesAt a d n)
     unfolding changeOf
     leaves-is w e = closes left w e closed
 
-    pub is-over : (r : Reply) → Ends (received r) → Gives a (closedAt d n) → Changes d k (closesAt a d n)
+    pub is-over : (r : Reply) → Ends (received r) → Gave a (closedAt d n) → Changes d k (closesAt a d n)
     unfolding changeOf
     is-over r w e = closes (received r) w e (rw (lt-ltb (d .waiting - 1) (d .waiting) (omega arith)) closed)

@@ -7,11 +7,11 @@ use Rattle.line.specs.Stand.{isAccepted}
 use Rattle.line.specs.Numbers.{is1x, number}
 use Rattle.line.proofs.Refine.{Models, demand3-of}
 use Rattle.line.proofs.Refusals.{accepted-numbers}
-use Rattle.transfer.specs.Coe.{coeMachine}
+use Rattle.transfer.specs.Coe.{Told, coeMachine}
 use Rattle.transfer.proofs.Numbers.{coeNumbered}
 use Rattle.desk.specs.Record.{Queue, Good, viewOf}
 use Rattle.desk.specs.Calls.{answerFor, lentAfter}
-use Rattle.desk.specs.Stand.{Told, lentBy, deskStand, isAnswered, Demand3Desk}
+use Rattle.desk.specs.Stand.{lentBy, deskStand, isAnswered, Demand3Desk}
 use Rattle.desk.specs.declared.Desk.{Desk}
 use Rattle.desk.proofs.Held.{view-desk}
 use Rattle.desk.proofs.Kept.{good-fresh, good-step}

@@ -21,7 +21,7 @@ use Rattle.transfer.specs.declared.Order.{Order}
 use Rattle.transfer.specs.declared.Transfer.{Transfer}
 use Rattle.transfer.specs.Due.{requestDue}
 use Rattle.transfer.specs.Judgement.{nextWith}
-use Rattle.transfer.specs.Coe.{coeMachine, Gives, beginsWith, sendsWith, sendsIfDue, receivesWith, receivesIfDue}
+use Rattle.transfer.specs.Coe.{coeMachine, Told, beginsWith, sendsWith, sendsIfDue, receivesWith, receivesIfDue}
 use Rattle.desk.specs.declared.Desk.{Desk}
 use Rattle.desk.specs.Record.{Queue, lined, viewOf, deskOf, Good, placeIn}
 use Rattle.desk.specs.Calls.{answerFor, lentAfter, calledOf}
@@ -101,7 +101,7 @@ module _ (d : Desk) (g : Good d) (s : ℕ) where
         frame-sent = ap (λ (r : Queue × Outcome coeMachine). lentAfter b (r .1)) (sym sent-step)
 
     module _ (p c : List ℕ) where
-      abbrev further : Gives × Option Transfer → Ruling (Queue × Outcome coeMachine)
+      abbrev further : Told × Option Transfer → Ruling (Queue × Outcome coeMachine)
       further a = accept (receivedBy coeMachine s (a .1) q, received (a .0))
 
       receive-is : step coeMachine q (receive s (p, c)) ≡ settled coeMachine q (andThen (receivesIfDue t p c) further)
@@ -114,9 +114,9 @@ module _ (d : Desk) (g : Good d) (s : ℕ) where
           go true = refl
           go false = refl
 
-      receive-by : (v : Ruling (Gives × Option Transfer)) → receivesIfDue t p c ≡ v
+      receive-by : (v : Ruling (Told × Option Transfer)) → receivesIfDue t p c ≡ v
           → step coeMachine q (receive s (p, c)) ≡ settled coeMachine q (andThen v further)
-      receive-by v e = receive-is ∙ ap (λ (w : Ruling (Gives × Option Transfer)). settled coeMachine q (andThen w further)) e
+      receive-by v e = receive-is ∙ ap (λ (w : Ruling (Told × Option Transfer)). settled coeMachine q (andThen w further)) e
 
       pub receive-refuses : (k : ℕ) → receivesIfDue t p c ≡ refuse k → step coeMachine q (receive s (p, c)) ≡ (q, refused k)
       unfolding settled andThen

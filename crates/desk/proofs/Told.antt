@@ -15,7 +15,7 @@ use Rattle.transfer.specs.declared.Start.the-variants as start
 use Rattle.transfer.specs.declared.Sending.the-variants as sending
 use Rattle.transfer.specs.declared.Step.the-variants as stepped
 use Rattle.transfer.specs.Judgement.{nextWith}
-use Rattle.transfer.specs.Coe.{coeMachine, Gives, startOf, sendingOf, frameOf, stepOf, dataOf}
+use Rattle.transfer.specs.Coe.{coeMachine, Told, startOf, sendingOf, frameOf, stepOf, dataOf}
 use Rattle.desk.specs.declared.Desk.{Desk}
 use Rattle.desk.specs.declared.record.Turn.the-variants.{Head, Refused}
 use Rattle.desk.specs.Record.{Queue, viewOf, Good}
@@ -51,7 +51,7 @@ sending-sent (refuse n) b t e = let z : _≡_ {A = ℕ} 0 1 = cc in absurd (omeg
 sending-sent (accept r) b t e = let h : r .1 ≡ t = cc in λ i. accept (r .0, h i)
 
 abbrev Got : Type 0
-Got = Gives × Option Transfer
+Got = Told × Option Transfer
 
 pub step-refused : (v : Ruling Got) (k : ℕ) → stepOf v ≡ stepped.Refused k → v ≡ refuse k
 step-refused (refuse n) k e = let h : n ≡ k = cc in λ i. refuse (h i)

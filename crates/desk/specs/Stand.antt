@@ -7,14 +7,10 @@ use Rattle.line.specs.Desk.{passAt, Call, enter, send, receive, leave, step}
 use Rattle.line.specs.Stand.{Stand}
 use Rattle.line.specs.Alone.{Demand3Of}
 use Rattle.line.specs.Numbers.{is1x}
-use Rattle.judge.specs.declared.Answer.{Answer}
-use Rattle.transfer.specs.Coe.{coeMachine}
+use Rattle.transfer.specs.Coe.{Told, coeMachine}
 use Rattle.desk.specs.Record.{viewOf, emptyAt}
 use Rattle.desk.specs.Calls.{lentAfter, calledOf}
 use Rattle.desk.specs.declared.Desk.{Desk}
-
-abbrev pub Told : Type 0
-Told = Answer × List ℕ
 
 -- the buffer that a call lends
 unfoldable pub lentBy : Call coeMachine → List ℕ

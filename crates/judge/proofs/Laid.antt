@@ -7,7 +7,7 @@ use native.Mathlib.Omega.{arith}
 use lib.ListN.{length, take, drop, length-append, length-drop}
 use lib.Seq.{paste, paste-zero, take-length, length-take-le, take-at, drop-at, drop-drop}
 use Rattle.wire.specs.Store.{laid}
-use Rattle.judge.specs.Run.{holding}
+use Rattle.judge.specs.Replies.{holding}
 
 pub laid-nil : (d : List ℕ) (at : ℕ) → d ≡ laid d at []
 laid-nil d at =

@@ -13,7 +13,7 @@ use Rattle.judge.specs.Upload.{judgeUpload}
 use Rattle.judge.specs.Segment.{judgeSegment}
 use Rattle.judge.specs.Information.{judgeList}
 use Rattle.judge.specs.Storage.{taken, stored}
-use Rattle.judge.specs.Run.{Judge, byUpload, byDownload, bySegments, byFragments, Run, fresh, judgedIn, next, after, holding, KeptOnDone, sumAfter}
+use Rattle.judge.specs.Replies.{Judge, byUpload, byDownload, bySegments, byFragments, SoFar, fresh, judgedIn, next, after, holding, KeptOnDone, sumAfter}
 use Rattle.judge.specs.declared.Verdict.{Verdict}
 use Rattle.judge.specs.declared.Verdict.the-variants.{Refused, Emergency, Aborted, Done, SegmentsFollow, Segment, Fragment, ReplyDue}
 use Rattle.judge.proofs.Cases.{Alarming, upload-cases, download-cases, segment-cases, list-cases}
@@ -82,12 +82,12 @@ abbrev pub SoundJudge : Judge → Type 0
 SoundJudge judge = (begun : Bool) (earlier n : ℕ) (s : List ℕ) → Sound earlier n s (judge begun earlier n s)
 
 -- the buffer that was d holds the chunks so far, and nothing else was touched
-record Lies (d : List ℕ) (r : Run) : Type 0 where
+record Lies (d : List ℕ) (r : SoFar) : Type 0 where
   lies : r .buffer ≡ laid d 0 (r .payload)
   room : length (r .payload) ≤ length d
 
 module _ (judge : Judge) (sound : SoundJudge judge) (d : List ℕ) where
-  next-lies : (r : Run) (s : List ℕ) → Lies d r → Lies d (next judge r s)
+  next-lies : (r : SoFar) (s : List ℕ) → Lies d r → Lies d (next judge r s)
   unfolding stored
   next-lies r s h =
       let p = r .payload in
@@ -103,7 +103,7 @@ module _ (judge : Judge) (sound : SoundJudge judge) (d : List ℕ) where
         room = omega (arith, length-append p c);
       }
 
-  after-lies : (r : Run) (ss : List (List ℕ)) → Lies d r → Lies d (after judge r ss)
+  after-lies : (r : SoFar) (ss : List (List ℕ)) → Lies d r → Lies d (after judge r ss)
   after-lies r [] h = h
   after-lies r (s ∷ ss) h = after-lies (next judge r s) ss (next-lies r s h)
 
@@ -115,14 +115,14 @@ module _ (judge : Judge) (sound : SoundJudge judge) (d : List ℕ) where
   always ss = all-lie ss .lies ∙ laid-front d (after judge (fresh d) ss .payload)
 
   -- the sum that a verdict carries is that of the chunks
-  carried : (r : Run) (s : List ℕ) → sumAfter (length (r .payload)) (judgedIn judge r s) ≡ length (next judge r s .payload)
+  carried : (r : SoFar) (s : List ℕ) → sumAfter (length (r .payload)) (judgedIn judge r s) ≡ length (next judge r s .payload)
   carried r s =
       sound (r .begun) (length (r .payload)) (length (r .buffer)) s .sum
       ∙ sym (length-append (r .payload) (taken (judgedIn judge r s) s))
 
   kept : (ss : List (List ℕ)) (s : List ℕ) → KeptOnDone judge d ss s
   kept ss s e =
-      let r : Run = after judge (fresh d) ss in
+      let r : SoFar = after judge (fresh d) ss in
       record {
         length-is =
             sound (r .begun) (length (r .payload)) (length (r .buffer)) s .ends e
@@ -142,10 +142,10 @@ segments-lie = always bySegments sound-segments
 pub fragments-lie : (d : List ℕ) (ss : List (List ℕ)) → after byFragments (fresh d) ss .buffer ≡ holding (after byFragments (fresh d) ss .payload) d
 fragments-lie = always byFragments sound-fragments
 
-pub segments-sum : (r : Run) (s : List ℕ) → sumAfter (length (r .payload)) (judgedIn bySegments r s) ≡ length (next bySegments r s .payload)
+pub segments-sum : (r : SoFar) (s : List ℕ) → sumAfter (length (r .payload)) (judgedIn bySegments r s) ≡ length (next bySegments r s .payload)
 segments-sum r s = carried bySegments sound-segments (r .buffer) r s
 
-pub fragments-sum : (r : Run) (s : List ℕ) → sumAfter (length (r .payload)) (judgedIn byFragments r s) ≡ length (next byFragments r s .payload)
+pub fragments-sum : (r : SoFar) (s : List ℕ) → sumAfter (length (r .payload)) (judgedIn byFragments r s) ≡ length (next byFragments r s .payload)
 fragments-sum r s = carried byFragments sound-fragments (r .buffer) r s
 
 pub segments-kept : (d : List ℕ) (ss : List (List ℕ)) (s : List ℕ) → KeptOnDone bySegments d ss s

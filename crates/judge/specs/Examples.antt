@@ -20,7 +20,7 @@ use Rattle.judge.specs.Upload.{expeditedOf, wholeOf, normalOf, uploadOf,
 use Rattle.judge.specs.Segment.{chunkLength, segmentOf, judgeSegment}
 use Rattle.judge.specs.Information.{fragmentAt, fragmentOf, judgeList}
 use Rattle.judge.specs.Storage.{stored}
-use Rattle.judge.specs.Run.{Judge, bySegments, byFragments, Run, fresh, judgedIn, next, after}
+use Rattle.judge.specs.Replies.{Judge, bySegments, byFragments, SoFar, fresh, judgedIn, next, after}
 use Rattle.judge.specs.declared.Verdict.{Verdict}
 use Rattle.judge.specs.declared.Answer.{Answer}
 
@@ -42,7 +42,7 @@ abbrev pub download : ℕ → List ℕ → Shown
 download n s = shown (judgeDownload 0x1018 1 s) s (blank n)
 
 -- what the last of some replies leaves
-abbrev pub lastIn : Judge → Run → List ℕ → Shown
+abbrev pub lastIn : Judge → SoFar → List ℕ → Shown
 lastIn judge r s = (answerOf (judgedIn judge r s), next judge r s .buffer)
 
 abbrev pub segments : ℕ → List (List ℕ) → List ℕ → Shown

@@ -9,5 +9,5 @@ pub mod Upload
 pub mod Segment
 pub mod Information
 pub mod Storage
-pub mod Run
+pub mod Replies
 pub mod Examples

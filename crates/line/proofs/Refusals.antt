@@ -7,14 +7,14 @@ use Prim.Native.Nat.{ℕ, _/_}
 use native.Mathlib.Omega.{arith}
 use borrow.Author.Tests.{eq-eqb}
 use lib.Dec.{eqb}
-use Rattle.wire.specs.Words.{pick, within}
+use Rattle.wire.specs.Words.{pick, within, firstOf}
 use Rattle.wire.proofs.Cases.{by}
 use Rattle.line.specs.Lists.{Each}
 use Rattle.line.specs.Machine.{Ruling, refuse, accept, andThen, Machine}
 use Rattle.line.specs.Line.{Line, noSeat, seated, find, headed, head}
 use Rattle.line.specs.Desk.{Call, Outcome, Desk, enter, send, receive, leave, refused, left, leftBy, judge, settled, step}
 use Rattle.line.specs.Stand.{isAccepted}
-use Rattle.line.specs.Numbers.{is1x, isRefused, RefusesOnly, Numbered, number, Test, firstOf, leads, ofHead, tests, refusalOf, RefusalNumbers, AcceptedNumbers}
+use Rattle.line.specs.Numbers.{is1x, isRefused, RefusesOnly, Numbered, number, Test, leads, ofHead, tests, refusalOf, RefusalNumbers, AcceptedNumbers}
 use Rattle.line.specs.Rules.{RefusesInOrder}
 use Rattle.line.proofs.Rulings.{within-true}
 use Rattle.line.proofs.Moves.{Move, stays, joins, asks, hears, goes, move}
@@ -61,21 +61,21 @@ module _ (M : Machine) (d : Desk M) where
     find-tested (q ∷ l) = by (eqb s (q .0)) (λ y. rw y) (λ n. rw n (find-tested l))
 
     module _ (f : Transfer → Judged) (ts : Transfer → List Test) (h : (t : Transfer) → told (f t) ≡ firstOf (ts t)) where
-      headed-tested : (l : Line Transfer) → told (andThen (headed s l) f) ≡ firstOf ((0x13, not (leads s l)) ∷ ofHead l ts)
-      unfolding settled refusalOf andThen headed firstOf leads ofHead
+      headed-tested : (l : Line Transfer) → told (andThen (headed s l) f) ≡ firstOf ((not (leads s l), 0x13) ∷ ofHead l ts)
+      unfolding settled refusalOf andThen headed leads ofHead
       headed-tested [] = refl
       headed-tested (q ∷ l) = by (eqb s (q .0)) (λ y. rw y (h (q .1))) (λ n. rw n)
 
       head-tested : (l : Line Transfer)
-          → told (andThen (head s l) f) ≡ firstOf ((0x10, noSeat s) ∷ (0x12, not (seated s l)) ∷ (0x13, not (leads s l)) ∷ ofHead l ts)
-      unfolding head firstOf
+          → told (andThen (head s l) f) ≡ firstOf ((noSeat s, 0x10) ∷ (not (seated s l), 0x12) ∷ (not (leads s l), 0x13) ∷ ofHead l ts)
+      unfolding head
       head-tested l = then-tested f (noSeat s) 0x10 _ _ (then-tested f (not (seated s l)) 0x12 _ _ (headed-tested l))
 
 module _ (M : Machine) (N : Numbered M) where
   open Machine M using (Transfer, begin, sendDue, sends, receives)
 
   pub refusal-order : (d : Desk M) → RefusesInOrder M d (step M d)
-  unfolding step judge tests firstOf settled refusalOf
+  unfolding step judge tests settled refusalOf
   refusal-order d (enter s e) =
       tested M d (noSeat s) 0x10 _ _ (tested M d (seated s (d .line)) 0x11 _ _
       (machine-tested M d _ 0x15 (begin e) (N .at-entry e) (λ t. refl)))
@@ -94,14 +94,13 @@ module _ (M : Machine) (N : Numbered M) where
   -- ---- which numbers these are
 
   abbrev Listed : List Test → Type 0
-  Listed = Each (λ t. within 0x10 0x16 (t .0) ≡ true)
+  Listed = Each (λ t. within 0x10 0x16 (t .1) ≡ true)
 
   first-listed : (ts : List Test) (n : ℕ) → Listed ts → firstOf ts ≡ some n → within 0x10 0x16 n ≡ true
-  unfolding firstOf
   first-listed [] n h e = absurd (Option·none-ne-some n e)
   first-listed (t ∷ ts) n h e =
-      by (t .1)
-      (λ y. rw (← Option·some-injective (t .0) n (rw y at e)) (h .0))
+      by (t .0)
+      (λ y. rw (← Option·some-injective (t .1) n (rw y at e)) (h .0))
       (λ m. first-listed ts n (h .1) (rw m at e))
 
   head-listed : (l : Line Transfer) (f : Transfer → List Test) → ((t : Transfer) → Listed (f t)) → Listed (ofHead l f)
@@ -129,7 +128,7 @@ module _ (M : Machine) (N : Numbered M) where
   accepted-move (stays n) F = rw (F n refl)
   accepted-move (joins s e t a f b) F = refl
   accepted-move (asks s b t r a e f) F = refl
-  accepted-move (hears s m t r a e f) F = sym (ap not (N .judged t m r f))
+  accepted-move (hears s m t r a e f) F = sym (ap not (N .at-judgement t m r f))
   accepted-move (goes s t a f) F = refl
 
   pub accepted-numbers : AcceptedNumbers M N

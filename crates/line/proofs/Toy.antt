@@ -57,7 +57,7 @@ numbered = record {
   at-entry = begin-15;
   at-send = λ t c b. only-pick 0x16 (ltb 9 b) _ tt;
   at-receive = λ t m. tt;
-  judged = λ t m r h. refl;
+  at-judgement = λ t m r h. refl;
 }
 
 abbrev Told : Type 0

@@ -4,14 +4,14 @@ use mathlib.Core.Bool.{true}
 use mathlib.Core.List.{[], _∷_, _++_, tail}
 use mathlib.Core.Option.{Option, none, some, Option·none-ne-some, Option·some-ne-none, Option·some-inj}
 use Prim.Native.Nat.{ℕ}
-use Rattle.wire.specs.Words.{pick}
+use Rattle.wire.specs.Words.{pick, firstOf}
 use Rattle.line.specs.Machine.{Machine}
 use Rattle.line.specs.Line.{place}
 use Rattle.line.specs.Desk.{counted, Call, Outcome, Desk, enter, send, receive, leave, refused, entered, sent, received, left, step}
 use Rattle.line.specs.Stand.{isAccepted}
 use Rattle.line.specs.Transfers.{seatOf}
 use Rattle.line.specs.Sound.{Sound}
-use Rattle.line.specs.Numbers.{Numbered, firstOf, tests, refusalOf}
+use Rattle.line.specs.Numbers.{Numbered, tests, refusalOf}
 use Rattle.line.specs.Rules.{isFrame, AnswerTo, RefusesInOrder, Obeys, OneDesk}
 use Rattle.line.proofs.Rulings.{accept-eq}
 use Rattle.line.proofs.Others.{vacate-absent}

@@ -48,12 +48,12 @@ module _ {M : Machine} {T : Type 0} (S : Stand M T) where
 
   -- "Serving the first transfer truly and pretending later breaks demand 3, whose single runs follow demand 2's rules": what
   -- holds of a stand's single runs holds of every transfer that is listed of it.
-  abbrev pub Follows : (List (Event M T) → Type 0) → Type 0
-  Follows R = (p : Pass) (ks : List (Call M)) → Begins p → R (trace S (S .fresh p) ks)
+  abbrev pub HoldsAlone : (List (Event M T) → Type 0) → Type 0
+  HoldsAlone R = (p : Pass) (ks : List (Call M)) → Begins p → R (trace S (S .fresh p) ks)
 
   abbrev pub NoPretender : (T → Bool) → Type 1
   NoPretender ok =
-      Demand3Of ok → (R : List (Event M T) → Type 0) → Follows R → (ks : List (Call M)) → Each R (listedOf ok ks)
+      Demand3Of ok → (R : List (Event M T) → Type 0) → HoldsAlone R → (ks : List (Call M)) → Each R (listedOf ok ks)
 
 -- demand 3 of the desk of `Desk`, whatever the machine
 abbrev pub Demand3 : Machine → Type 0

@@ -32,7 +32,7 @@ pub record Numbered (M : Machine) : Type 0 where
   pub at-entry : (e : M .Entry) → RefusesOnly 0x15 (M .begin e)
   pub at-send : (t : M .Transfer) (c : ℕ) (b : M .Lent) → RefusesOnly 0x16 (M .sends t c b)
   pub at-receive : (t : M .Transfer) (m : M .Reply) → RefusesOnly 0x16 (M .receives t m)
-  pub judged : (t : M .Transfer) (m : M .Reply) (r : M .Answer × Option (M .Transfer)) → M .receives t m ≡ accept r
+  pub at-judgement : (t : M .Transfer) (m : M .Reply) (r : M .Answer × Option (M .Transfer)) → M .receives t m ≡ accept r
       → is1x (numberOf (r .0)) ≡ false
 
 module _ (M : Machine) (N : Numbered M) where
@@ -46,12 +46,7 @@ module _ (M : Machine) (N : Numbered M) where
 
 -- a condition with its number
 abbrev pub Test : Type 0
-Test = ℕ × Bool
-
--- the number of the first condition that holds
-unfoldable pub firstOf : List Test → Option ℕ
-firstOf [] = none
-firstOf (t ∷ ts) = pick (t .1) (some (t .0)) (firstOf ts)
+Test = Bool × ℕ
 
 module _ {T : Type 0} where
   -- the seat is the head's
@@ -70,29 +65,29 @@ module _ (M : Machine) where
   -- "Order: enter 10, 11, 15; send and receive 10, 12, 13, 14, 16; leave 10, 12."
   unfoldable pub tests : Desk M → Call M → List Test
   tests d (enter s e) =
-      (0x10, noSeat s)
-      ∷ (0x11, seated s (d .line))
-      ∷ (0x15, isRefused (begin e))
+      (noSeat s, 0x10)
+      ∷ (seated s (d .line), 0x11)
+      ∷ (isRefused (begin e), 0x15)
       ∷ []
   tests d (send s b) =
-      (0x10, noSeat s)
-      ∷ (0x12, not (seated s (d .line)))
-      ∷ (0x13, not (leads s (d .line)))
+      (noSeat s, 0x10)
+      ∷ (not (seated s (d .line)), 0x12)
+      ∷ (not (leads s (d .line)), 0x13)
       ∷ ofHead (d .line) (λ t.
-      (0x14, not (sendDue t))
-      ∷ (0x16, isRefused (sends t (d .pass .counter) b))
+      (not (sendDue t), 0x14)
+      ∷ (isRefused (sends t (d .pass .counter) b), 0x16)
       ∷ [])
   tests d (receive s m) =
-      (0x10, noSeat s)
-      ∷ (0x12, not (seated s (d .line)))
-      ∷ (0x13, not (leads s (d .line)))
+      (noSeat s, 0x10)
+      ∷ (not (seated s (d .line)), 0x12)
+      ∷ (not (leads s (d .line)), 0x13)
       ∷ ofHead (d .line) (λ t.
-      (0x14, sendDue t)
-      ∷ (0x16, isRefused (receives t m))
+      (sendDue t, 0x14)
+      ∷ (isRefused (receives t m), 0x16)
       ∷ [])
   tests d (leave s) =
-      (0x10, noSeat s)
-      ∷ (0x12, not (seated s (d .line)))
+      (noSeat s, 0x10)
+      ∷ (not (seated s (d .line)), 0x12)
       ∷ []
 
   unfoldable pub refusalOf : Outcome M → Option ℕ

@@ -7,14 +7,14 @@ use mathlib.Core.List.{[], _∷_, _++_, tail}
 use mathlib.Core.Option.{Option, none}
 use Prim.Native.Nat.{ℕ}
 use lib.Dec.{eqb}
-use Rattle.wire.specs.Words.{pick}
+use Rattle.wire.specs.Words.{pick, firstOf}
 use Rattle.line.specs.Machine.{accept, Machine}
 use Rattle.line.specs.Line.{seated, find, vacate, place}
 use Rattle.line.specs.Desk.{counted, Call, Outcome, Desk, enter, send, receive, leave, refused, entered, sent, received, left, step}
 use Rattle.line.specs.Stand.{isAccepted}
 use Rattle.line.specs.Transfers.{seatOf}
 use Rattle.line.specs.Sound.{Sound}
-use Rattle.line.specs.Numbers.{firstOf, tests, refusalOf}
+use Rattle.line.specs.Numbers.{tests, refusalOf}
 
 module _ {M : Machine} where
   unfoldable pub isFrame : Outcome M → Bool

@@ -11,7 +11,7 @@ use Rattle.judge.specs.Storage.{taken}
 use Rattle.judge.specs.declared.Verdict.{Verdict}
 use Rattle.judge.specs.declared.Verdict.the-variants as verdict
 use Rattle.transfer.specs.Due.{dueOf, requestDue, awaitingOf}
-use Rattle.transfer.specs.Judgement.{judgeReply, settled, nextOf}
+use Rattle.transfer.specs.Judgement.{judgeReply, budgeted, nextOf}
 use Rattle.transfer.specs.Coe.{Lends, requestIn, replyIn, judged}
 use Rattle.transfer.specs.Life.{Life, asked, fetched, replied}
 use Rattle.transfer.specs.declared.Order.{Order}
@@ -98,7 +98,7 @@ module _ {o : Order} {w : Standing} {t : Transfer} (S : Stands o w t) where
   verdict-is l h =
       let p = reply-in t (w .due) (S .stage) h ∙ ap (λ (x : Order). replyAt x (w .due)) (life-true (S .life) .order) in
       budget-kept o t (w .replies) (w .segments) (w .payload) (S .life) (length (l .1)) (l .0)
-      ∙ ap (λ (r : Reply). settled (eqb (suc (w .replies)) (o .budget)) (judgeReply r (length (w .payload)) (length (l .1)) (l .0))) p
+      ∙ ap (λ (r : Reply). budgeted (eqb (suc (w .replies)) (o .budget)) (judgeReply r (length (w .payload)) (length (l .1)) (l .0))) p
 
 -- ---- where it stands after a request
 

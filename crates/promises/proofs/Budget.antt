@@ -9,10 +9,10 @@ use Rattle.judge.specs.Answers.{doneOr, answerOf}
 use Rattle.judge.specs.declared.Verdict.{Verdict}
 use Rattle.judge.specs.declared.Verdict.the-variants.{Refused}
 use Rattle.judge.proofs.Cases.{Alarming, upload-cases, download-cases, segment-cases, list-cases}
-use Rattle.transfer.specs.Judgement.{judgeReply, goesOn, settled}
+use Rattle.transfer.specs.Judgement.{judgeReply, goesOn, budgeted}
 use Rattle.transfer.specs.declared.due.Reply.{Reply}
 use Rattle.transfer.specs.declared.due.Reply.the-variants as reply
-use Rattle.promises.specs.Told.{told}
+use Rattle.promises.specs.Finding.{finding}
 use Rattle.promises.specs.Rules.{BudgetRule}
 
 abbrev due : ℕ → Bool
@@ -39,13 +39,13 @@ numbered reply.Segment earlier n s =
 numbered (reply.Fragment begun) earlier n s =
     list-cases Numbered s earlier n refl refl begun refl refl λ from len last h k. unless-last last _ 0x02 refl
 
-told-either : (b : Bool) (v w : Verdict) (s : List ℕ) → told (pick b v w) s ≡ pick b (told v s) (told w s)
+told-either : (b : Bool) (v w : Verdict) (s : List ℕ) → finding (pick b v w) s ≡ pick b (finding v s) (finding w s)
 told-either true v w s = refl
 told-either false v w s = refl
 
 pub budget-rule : BudgetRule
-unfolding settled answerOf
+unfolding budgeted answerOf
 budget-rule spent r earlier n s =
     let v = judgeReply r earlier n s in
-    ap (λ (g : Bool). told (pick (both spent g) (Refused 0x27) v) s) (numbered r earlier n s)
+    ap (λ (g : Bool). finding (pick (both spent g) (Refused 0x27) v) s) (numbered r earlier n s)
     ∙ told-either (both spent (due (answerOf v .number))) (Refused 0x27) v s

@@ -27,7 +27,7 @@ use Rattle.line.proofs.Moves.{at, Move, stays, joins, asks, hears, goes, move}
 use Rattle.line.proofs.Told.{retold}
 use Rattle.transfer.specs.Due.{dueOf, requestDue, awaitingOf}
 use Rattle.transfer.specs.Judgement.{nextOf}
-use Rattle.transfer.specs.Coe.{Lends, Gives, requestIn, judged, receipt, sendsWith, receivesWith, coeMachine}
+use Rattle.transfer.specs.Coe.{Lends, Told, requestIn, judged, receipt, sendsWith, receivesWith, coeMachine}
 use Rattle.transfer.specs.declared.Order.{Order}
 use Rattle.transfer.specs.declared.Transfer.{Transfer}
 use Rattle.transfer.proofs.Numbers.{accepted}
@@ -101,7 +101,7 @@ module _ (o : Order) (s : ℕ) (w : Standing) where
             (ap (λ (c : ℕ). at coeMachine ((s, r .1) ∷ []) (passAt c)) (sym (counted-by w (w .due) h))),
       )
 
-  hears-so : (l : Lends) (t : Transfer) (S : Stands o w t) (r : Gives × Option Transfer) → requestDue t ≡ false → receivesWith t l ≡ accept r
+  hears-so : (l : Lends) (t : Transfer) (S : Stands o w t) (r : Told × Option Transfer) → requestDue t ≡ false → receivesWith t l ≡ accept r
       → Stepped (receive s l) (at coeMachine (place s (r .1)) (passAt (w .counter)), received (r .0))
   unfolding standing.Gives moved answerFor lentAfter place
   hears-so l t S r e f =
@@ -110,8 +110,8 @@ module _ (o : Order) (s : ℕ) (w : Standing) where
       let A = accepted t l r f .is in
       let told : receipt t (l .0) (l .1) .0 ≡ (answerOf (verdictOf o w l), stored (verdictOf o w l) (l .0) (length (w .payload)) (l .1)) =
       ap₂ (λ (x : Verdict) (n : ℕ). (answerOf x, stored x (l .0) n (l .1))) v (life-true (S .life) .sum) in (
-        (h, ap (λ (x : Gives × Option Transfer). x .0) (sym A) ∙ told),
-        subst (λ (x : Gives × Option Transfer). Alone o s (standing.heard o w l) (at coeMachine (place s (x .1)) (passAt (w .counter)))) A
+        (h, ap (λ (x : Told × Option Transfer). x .0) (sym A) ∙ told),
+        subst (λ (x : Told × Option Transfer). Alone o s (standing.heard o w l) (at coeMachine (place s (x .1)) (passAt (w .counter)))) A
             (next (nextOf t (judged t (length (l .1)) (l .0))) refl),
       )
     where

@@ -40,7 +40,7 @@ use Rattle.judge.specs.declared.headers.SegmentHeaders.{SegmentHeaders}
 use Rattle.judge.specs.declared.headers.SegmentHeadersRead.the-variants as SegmentHeadersRead
 use Rattle.judge.specs.declared.headers.InformationHeaders.{InformationHeaders}
 use Rattle.judge.specs.declared.headers.InformationHeadersRead.the-variants as InformationHeadersRead
-use Rattle.promises.specs.Told.{Told, refuse}
+use Rattle.promises.specs.Finding.{Finding, refuse}
 use Rattle.promises.specs.Rules.{under, unlisted, types, services, specifiers, operations}
 use Rattle.promises.proofs.Lines.{Look, look, Tells, line, listed}
 
@@ -74,7 +74,7 @@ module _ (s : List ℕ) where
       (no-service : (t : MailboxType) (c : R) → judged (ListedType.Listed t) ListedService.Unlisted c ≡ Refused 0x20)
       (no-third : (t : MailboxType) (v : CoeService) → judged (ListedType.Listed t) (ListedService.Listed v) none ≡ Refused 0x20)
     where
-      pub decoded : {x : Option Told}
+      pub decoded : {x : Option Finding}
           → ((t : MailboxType) (v : CoeService) (a : A)
           → names.typeNumber t ≡ the mailboxType s → names.serviceNumber v ≡ the service s → number a ≡ n
           → Tells s (judged (ListedType.Listed t) (ListedService.Listed v) (found a)) x)

@@ -24,7 +24,7 @@ use Rattle.line.proofs.Seats.{vacated}
 use Rattle.line.proofs.Moves.{at, Move, stays, joins, asks, hears, goes, move}
 use Rattle.line.proofs.Refusals.{refusal-numbers}
 use Rattle.transfer.specs.Judgement.{judgedNumbers, nextOf}
-use Rattle.transfer.specs.Coe.{Lends, Gives, judged, receivesWith, coeMachine}
+use Rattle.transfer.specs.Coe.{Lends, Told, judged, receivesWith, coeMachine}
 use Rattle.transfer.specs.declared.Transfer.{Transfer}
 use Rattle.transfer.proofs.Numbers.{among, judged-number, not-1x, accepted, coeNumbered}
 use Rattle.transfer.proofs.Refusals.{ends-unstored}
@@ -77,7 +77,7 @@ record Says (k : Call coeMachine) (q : Queue) (r : Queue × Outcome coeMachine) 
   leaves : says k (r .1) .0 .number ≡ 0x03 → (seated (seatOf k) (r .0 .line) ≡ false) × (says k (r .1) .1 ≡ lentBy k)
 
 -- a judged reply
-module _ (s : ℕ) (m : Lends) (t : Transfer) (r : Gives × Option Transfer) (l : Line Transfer) (p : Pass) (h : seated s l ≡ false) where
+module _ (s : ℕ) (m : Lends) (t : Transfer) (r : Told × Option Transfer) (l : Line Transfer) (p : Pass) (h : seated s l ≡ false) where
   abbrev heard : Queue × Outcome coeMachine
   heard = (at coeMachine (place s (r .1) ++ l) p, received (r .0))
 
@@ -90,7 +90,7 @@ module _ (s : ℕ) (m : Lends) (t : Transfer) (r : Gives × Option Transfer) (l 
   says-heard f =
       let A = accepted t m r f .is in
       let v = judged t (length (m .1)) (m .0) in
-      let number : answerOf v .number ≡ r .0 .0 .number = ap (λ (x : Gives × Option Transfer). x .0 .0 .number) A in
+      let number : answerOf v .number ≡ r .0 .0 .number = ap (λ (x : Told × Option Transfer). x .0 .0 .number) A in
       let one = subst (λ n. oneOf judgedNumbers n ≡ true) number (judged-number t (length (m .1)) (m .0)) in
       let not1x = subst (λ n. is1x n ≡ false) number (not-1x t (length (m .1)) (m .0)) in
       record {
@@ -99,7 +99,7 @@ module _ (s : ℕ) (m : Lends) (t : Transfer) (r : Gives × Option Transfer) (l 
         failure = λ e.
             let z = ends-unstored t m r f (le-leb 0x20 (r .0 .0 .number) (omega (arith, eqb-true (r .0 .0 .number / 16) 2 e))) in
             (freed (z .1), z .0);
-        done = λ e. freed (ap (λ (x : Gives × Option Transfer). x .1) (sym A) ∙ done-over t v (number ∙ e));
+        done = λ e. freed (ap (λ (x : Told × Option Transfer). x .1) (sym A) ∙ done-over t v (number ∙ e));
         leaves = λ e. absurd (true≢false (sym one ∙ ap (oneOf judgedNumbers) e));
       }
 

@@ -14,8 +14,8 @@ use Rattle.line.proofs.Ones.{each-keep, each-one}
 use Rattle.line.proofs.Told.{retold}
 use Rattle.line.proofs.Counter.{begins-in-range}
 use Rattle.line.proofs.Refine.{fresh-trace, begins-good, begins-view}
-use Rattle.transfer.specs.Coe.{coeMachine}
-use Rattle.desk.specs.Stand.{Told, deskStand, isAnswered}
+use Rattle.transfer.specs.Coe.{Told, coeMachine}
+use Rattle.desk.specs.Stand.{deskStand, isAnswered}
 use Rattle.desk.proofs.Demand.{says, desk-models, answered-is, demand3-desk}
 use Rattle.promises.specs.Demand3.{Demand3, ByTheFunctions, RunsExist, SinglesFollow, ServedTruly}
 use Rattle.promises.specs.Standing.{Called, Deed}

@@ -7,19 +7,18 @@ use Prim.Native.Nat.{ℕ, suc, _+_}
 use lib.ListN.{length}
 use Rattle.judge.specs.Answers.{answerOf}
 use Rattle.judge.specs.Storage.{taken, stored}
-use Rattle.judge.specs.Run.{holding}
+use Rattle.judge.specs.Replies.{holding}
 use Rattle.judge.specs.declared.Verdict.{Verdict}
 use Rattle.line.specs.Desk.{enter, send, receive, leave}
 use Rattle.transfer.specs.Due.{awaitingOf}
 use Rattle.transfer.specs.Judgement.{nextOf}
-use Rattle.transfer.specs.Coe.{judged}
+use Rattle.transfer.specs.Coe.{Told, judged}
 use Rattle.transfer.specs.Life.{Filled, asks, fetches, hears}
 use Rattle.transfer.specs.declared.Order.{Order}
 use Rattle.transfer.specs.declared.Transfer.{Transfer}
 use Rattle.transfer.proofs.Lives.{life-true}
 use Rattle.transfer.proofs.Payload.{payload-lies}
-use Rattle.desk.specs.Stand.{Told}
-use Rattle.promises.specs.Standing.{Called, Deed, Due, firstRequest, firstReply, segmentRequest, segmentReply, laterFragment, nothing, Standing, isRequest, isReply, verdictOf, moved, Gives, Goes}
+use Rattle.promises.specs.Standing.{Called, Deed, Due, firstRequest, firstReply, segmentRequest, segmentReply, laterFragment, nothing, Standing, isRequest, isReply, verdictOf, moved, GivesAt, Goes}
 use Rattle.promises.specs.Standing as standing
 use Rattle.promises.specs.Whole.{Lent, leftBy, OneBuffer, KeptOn, Kept}
 use Rattle.promises.proofs.Agree.{stageOf, Stands, asked-stands, heard-stands, heard-over, verdict-is}
@@ -73,9 +72,9 @@ module _ (o : Order) (d₀ : List ℕ) where
             (hears s (reply-due S h) F n)))
 
   kept-call : (w : Standing) (t : Transfer) (d : List ℕ) (k : Called) (x : Told) → Stands o w t
-      → Filled o d₀ t (w .replies) (w .segments) (w .payload) d → Gives o w k x → Lent d k
+      → Filled o d₀ t (w .replies) (w .segments) (w .payload) d → GivesAt o w k x → Lent d k
       → KeptOn d₀ (moved o w k .payload) k x × Holds (moved o w k) (leftBy d k x)
-  unfolding Gives moved Lent KeptOn leftBy
+  unfolding GivesAt moved Lent KeptOn leftBy
   kept-call w t d (enter s e) x S F G B = absurd G
   kept-call w t d (send s b) x S F G B = (tt, live (awaitingOf t) (asked-stands S (G .0)) (filled-asked w t d (w .due) (S .stage) (G .0) F))
   kept-call w t d (receive s l) x S F G B =

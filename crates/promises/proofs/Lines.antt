@@ -13,7 +13,7 @@ use Rattle.mailbox.specs.Listed.{lookUp}
 use Rattle.judge.specs.Answers.{answerOf, oneOf}
 use Rattle.judge.specs.declared.Verdict.{Verdict}
 use Rattle.judge.specs.declared.Verdict.the-variants.{Refused}
-use Rattle.promises.specs.Told.{Told, told, refuse}
+use Rattle.promises.specs.Finding.{Finding, finding, refuse}
 
 -- a number looked up among names: none has it, or one has
 pub data Look {A R : Type 0} (number : A → ℕ) (found : A → R) (none : R) (n : ℕ) (q : R) (among : Bool) : Type 0 where
@@ -37,24 +37,24 @@ module _ {A R : Type 0} (number : A → ℕ) (found : A → R) (none : R) (n : �
 
 module _ (s : List ℕ) where
   -- x is what the lines tell of a reply with this verdict
-  abbrev pub Tells : Verdict → Option Told → Type 0
-  Tells v x = x ≡ some (told v s)
+  abbrev pub Tells : Verdict → Option Finding → Type 0
+  Tells v x = x ≡ some (finding v s)
 
-  pub line : (b : Bool) (v w : Verdict) {x : Option Told} → Tells w x → Tells (pick b v w) (pick b (some (told v s)) x)
+  pub line : (b : Bool) (v w : Verdict) {x : Option Finding} → Tells w x → Tells (pick b v w) (pick b (some (finding v s)) x)
   line true v w p = refl
   line false v w p = p
 
   -- two tests, one within the other
-  pub guarded : (b c : Bool) (v u w : Verdict) {x : Option Told} → Tells w x
-      → Tells (pick b (pick c v u) w) (pick (both b c) (some (told v s)) (pick b (some (told u s)) x))
+  pub guarded : (b c : Bool) (v u w : Verdict) {x : Option Finding} → Tells w x
+      → Tells (pick b (pick c v u) w) (pick (both b c) (some (finding v s)) (pick b (some (finding u s)) x))
   guarded true true v u w p = refl
   guarded true false v u w p = refl
   guarded false c v u w p = p
 
   -- three tests with one answer
-  pub any-of : (a b c : Bool) (v w : Verdict) {x : Option Told} → Tells w x
+  pub any-of : (a b c : Bool) (v w : Verdict) {x : Option Finding} → Tells w x
       → Tells (pick (either a (either b c)) v w)
-      (pick a (some (told v s)) (pick b (some (told v s)) (pick c (some (told v s)) x)))
+      (pick a (some (finding v s)) (pick b (some (finding v s)) (pick c (some (finding v s)) x)))
   any-of true b c v w p = refl
   any-of false true c v w p = refl
   any-of false false true v w p = refl
@@ -64,7 +64,7 @@ module _ (s : List ℕ) where
   pub listed : {A R : Type 0} {number : A → ℕ} {found : A → R} {none q : R} {n : ℕ} {among : Bool}
       → Look number found none n q among
       → (judged : R → Verdict) → judged none ≡ Refused 0x20
-      → {x : Option Told} → ((a : A) → number a ≡ n → Tells (judged (found a)) x)
+      → {x : Option Finding} → ((a : A) → number a ≡ n → Tells (judged (found a)) x)
       → Tells (judged q) (pick (not among) (some (refuse 0x20)) x)
   unfolding answerOf
   listed (missing e m) judged r p = rw (e, m, r)

@@ -3,9 +3,9 @@ use mathlib.Core.Path.{sym, ap, _∙_}
 use mathlib.Core.List.{List, [], map}
 use Prim.Native.Nat.{ℕ}
 use lib.ListN.{getD}
+use Rattle.transfer.specs.Coe.{Told}
 use Rattle.wire.proofs.One.{one}
 use Rattle.judge.specs.Answers.{plainOf}
-use Rattle.desk.specs.Stand.{Told}
 use Rattle.promises.specs.One.{Unique}
 use Rattle.promises.specs.Standing.{Deed}
 

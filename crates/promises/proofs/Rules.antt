@@ -8,7 +8,7 @@ use native.Mathlib.Omega.{arith}
 use borrow.Author.Tests.{eqb-true, eqb-false, ltb-true, ltb-false, lt-ltb, le-ltb}
 use lib.Dec.{ltb, leb, eqb}
 use lib.ListN.{length}
-use Rattle.wire.specs.Words.{pick, both}
+use Rattle.wire.specs.Words.{pick, both, firstOf}
 use Rattle.wire.proofs.Cases.{by}
 use Rattle.mailbox.specs.Fields.{the, lengthField, mailboxType, service, expedited, size, specifier, index, subIndex, lastSegment, unusedCount, operation, incomplete}
 use Rattle.mailbox.specs.Numbers.{serviceNumber, commandNumber}
@@ -34,8 +34,8 @@ use Rattle.judge.specs.declared.chunk.Chunk.the-variants.{There, Missing}
 use Rattle.judge.specs.declared.headers.Headers.{Headers}
 use Rattle.transfer.specs.Judgement.{judgeReply}
 use Rattle.transfer.specs.declared.due.Reply.the-variants as reply
-use Rattle.promises.specs.Told.{Told, refuse, emergency, aborted, done, thenRequest, thenReply}
-use Rattle.promises.specs.Rules.{Rule, firstOf, under, from, fewerFrom, at, isSet, sdo, addressed, download, expeditedUpload, otherUpload, segmentChunk, segment, chunkPlace, information, rules, JudgedByRules}
+use Rattle.promises.specs.Finding.{Finding, refuse, emergency, aborted, done, thenRequest, thenReply}
+use Rattle.promises.specs.Rules.{Rule, under, from, fewerFrom, at, isSet, sdo, addressed, download, expeditedUpload, otherUpload, segmentChunk, segment, chunkPlace, information, rules, JudgedByRules}
 use Rattle.promises.proofs.Lines.{Tells, line, guarded, any-of}
 use Rattle.promises.proofs.Decoded.{specifier-look, operation-look, decoded, sdoBy, sdo-read, segmentBy, segment-read, informationBy, information-read}
 
@@ -80,7 +80,7 @@ fragment-place false = refl
 module _ (s : List ℕ) where
   -- rules 2 and 3
   alarm-lines : (v : CoeService) (k : CoeCommand) → serviceNumber v ≡ the service s → commandNumber k ≡ the specifier s
-      → (w : Verdict) {x : Option Told} → Tells s w x
+      → (w : Verdict) {x : Option Finding} → Tells s w x
       → Tells s (unlessAlarm (alarmIn s v k) w)
       (pick (both (eqb (the service s) 1) (under 20 s)) (some (refuse 0x20))
       (pick (eqb (the service s) 1) (some (emergency (at 12 13 s) (at 14 14 s)))
@@ -127,7 +127,7 @@ module _ (s : List ℕ) where
   -- ---- chunks
 
   module _ (place len earlier n : ℕ) (f : ℕ → Verdict) where
-    chunk-lines : {x : Option Told} → Tells s (f (earlier + len)) x
+    chunk-lines : {x : Option Finding} → Tells s (f (earlier + len)) x
         → Tells s (onChunk (chunkAt (length s) place len earlier n) f)
         (pick (fewerFrom place len s) (some (refuse 0x25)) (pick (ltb n (earlier + len)) (some (refuse 0x25)) x))
     unfolding chunkAt answerOf

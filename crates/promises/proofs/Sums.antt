@@ -14,14 +14,13 @@ use Rattle.judge.specs.declared.Verdict.{Verdict}
 use Rattle.judge.specs.declared.Verdict.the-variants as verdict
 use Rattle.line.specs.Desk.{enter, send, receive, leave}
 use Rattle.transfer.specs.Due.{requestDue, awaitingOf}
-use Rattle.transfer.specs.Judgement.{judgeReply, settled, nextOf}
-use Rattle.transfer.specs.Coe.{Lends, judged}
+use Rattle.transfer.specs.Judgement.{judgeReply, budgeted, nextOf}
+use Rattle.transfer.specs.Coe.{Told, Lends, judged}
 use Rattle.transfer.specs.declared.Order.{Order}
 use Rattle.transfer.specs.declared.Transfer.{Transfer}
 use Rattle.transfer.proofs.Numbers.{ofReply, reply-number}
 use Rattle.transfer.proofs.Lives.{life-true, length-is-sum}
-use Rattle.desk.specs.Stand.{Told}
-use Rattle.promises.specs.Standing.{Called, Deed, Due, firstRequest, firstReply, segmentRequest, segmentReply, laterFragment, nothing, Standing, isOver, isRequest, isReply, replyAt, verdictOf, moved, Gives, Goes}
+use Rattle.promises.specs.Standing.{Called, Deed, Due, firstRequest, firstReply, segmentRequest, segmentReply, laterFragment, nothing, Standing, isOver, isRequest, isReply, replyAt, verdictOf, moved, GivesAt, Goes}
 use Rattle.promises.specs.Standing as standing
 use Rattle.promises.specs.Whole.{heardBy, replyCount, SumsOn, Sums}
 use Rattle.promises.proofs.Agree.{Stands, asked-stands, heard-stands, heard-over, verdict-is, request-at}
@@ -38,8 +37,8 @@ not-request laterFragment h = refl
 not-request nothing h = absurd (false≢true h)
 
 -- a transfer that is over makes no call
-pub none-over : {X : Type 0} (o : Order) (w : Standing) (k : Called) (t : Told) → w .due ≡ nothing → Gives o w k t → X
-unfolding Gives isRequest isReply isOver
+pub none-over : {X : Type 0} (o : Order) (w : Standing) (k : Called) (t : Told) → w .due ≡ nothing → GivesAt o w k t → X
+unfolding GivesAt isRequest isReply isOver
 none-over o w (enter s e) t z G = absurd G
 none-over o w (send s b) t z G = absurd (false≢true (rw z at (G .0)))
 none-over o w (receive s l) t z G = absurd (false≢true (rw z at (G .0)))
@@ -69,8 +68,8 @@ done-alone (verdict.Fragment f k sum false) h = absurd (omega arith)
 done-alone verdict.ReplyDue h = absurd (omega arith)
 
 -- 27 is the budget's number, and no reply's
-spent-27 : (spent : Bool) (v : Verdict) → ofReply (answerOf v .number) ≡ true → answerOf (settled spent v) .number ≡ 0x27 → spent ≡ true
-unfolding settled
+spent-27 : (spent : Bool) (v : Verdict) → ofReply (answerOf v .number) ≡ true → answerOf (budgeted spent v) .number ≡ 0x27 → spent ≡ true
+unfolding budgeted
 spent-27 true v r h = refl
 spent-27 false v r h = absurd (false≢true (sym (ap ofReply h) ∙ r))
 
@@ -103,8 +102,8 @@ asked-replies w segmentReply = refl
 asked-replies w laterFragment = refl
 asked-replies w nothing = refl
 
-sums-call : (o : Order) (w : Standing) (t : Transfer) (k : Called) (x : Told) → Stands o w t → Gives o w k x → SumsOn o (moved o w k) k x
-unfolding Gives moved SumsOn
+sums-call : (o : Order) (w : Standing) (t : Transfer) (k : Called) (x : Told) → Stands o w t → GivesAt o w k x → SumsOn o (moved o w k) k x
+unfolding GivesAt moved SumsOn
 sums-call o w t (enter s e) x S G = absurd G
 sums-call o w t (send s b) x S G = tt
 sums-call o w t (receive s l) x S G =
@@ -114,9 +113,9 @@ sums-call o w t (receive s l) x S G =
     )
 sums-call o w t (leave s) x S G = tt
 
-counted-call : (o : Order) (w : Standing) (t : Transfer) (k : Called) (x : Told) → Stands o w t → Gives o w k x
+counted-call : (o : Order) (w : Standing) (t : Transfer) (k : Called) (x : Told) → Stands o w t → GivesAt o w k x
     → (moved o w k .replies ≡ heardBy k + w .replies) × Counted o (moved o w k)
-unfolding Gives moved heardBy
+unfolding GivesAt moved heardBy
 counted-call o w t (enter s e) x S G = absurd G
 counted-call o w t (send s b) x S G = (let z = asked-replies w (w .due) in omega arith, live (awaitingOf t) (asked-stands S (G .0)))
 counted-call o w t (receive s l) x S G = (omega arith, next (nextOf t (judged t (length (l .1)) (l .0))) refl)

@@ -6,25 +6,25 @@ use mathlib.Core.Option.{Option, some}
 use Prim.Native.Nat.{ℕ}
 use lib.Dec.{ltb}
 use lib.ListN.{length}
-use Rattle.wire.specs.Words.{pick, within}
+use Rattle.wire.specs.Words.{pick, within, firstOf}
 use Rattle.services.specs.Written.{fits}
 use Rattle.judge.specs.Answers.{plainOf}
 use Rattle.line.specs.Machine.{refuse, accept}
 use Rattle.line.specs.Line.{Line}
 use Rattle.line.specs.Desk.{Pass, Call, Outcome, enter, send, receive, leave, freshAt, step}
 use Rattle.line.specs.Stand.{after, lineStand}
-use Rattle.line.specs.Numbers.{Test, firstOf, isRefused, ofHead, tests, refusalOf}
+use Rattle.line.specs.Numbers.{Test, isRefused, ofHead, tests, refusalOf}
 use Rattle.line.proofs.Moves.{Move, stays, joins, asks, hears, goes, move}
 use Rattle.line.proofs.Refine.{after-is}
 use Rattle.line.proofs.Refusals.{refusal-order}
 use Rattle.transfer.specs.Entry.{unfitOf}
-use Rattle.transfer.specs.Coe.{Lends, Gives, beginsWith, sendsWith, receivesWith, coeMachine}
+use Rattle.transfer.specs.Coe.{Lends, Told, beginsWith, sendsWith, receivesWith, coeMachine}
 use Rattle.transfer.specs.declared.Order.{Order}
 use Rattle.transfer.specs.declared.Transfer.{Transfer}
 use Rattle.transfer.proofs.Numbers.{accepted, coeNumbered}
 use Rattle.desk.specs.Record.{Queue, viewOf}
 use Rattle.desk.specs.Calls.{answerFor, lentAfter}
-use Rattle.desk.specs.Stand.{Told, lentBy, deskStand, isAnswered}
+use Rattle.desk.specs.Stand.{lentBy, deskStand, isAnswered}
 use Rattle.desk.specs.declared.Desk.{Desk}
 use Rattle.desk.proofs.Held.{view-desk}
 use Rattle.desk.proofs.Kept.{good-fresh}
@@ -51,12 +51,12 @@ frame-16 t c b = go (fits (length b)) _
     go false r = refl
 
 reply-16 : (t : Transfer) (l : Lends)
-    → firstOf ((0x16, isRefused (receivesWith t l)) ∷ []) ≡ firstOf ((0x16, ltb 1486 (length (l .0))) ∷ (0x16, ltb 131070 (length (l .1))) ∷ [])
-unfolding receivesWith firstOf
+    → firstOf ((isRefused (receivesWith t l), 0x16) ∷ []) ≡ firstOf ((ltb 1486 (length (l .0)), 0x16) ∷ (ltb 131070 (length (l .1)), 0x16) ∷ [])
+unfolding receivesWith
 reply-16 t l = go (ltb 1486 (length (l .0))) (ltb 131070 (length (l .1))) _
   where
-    go : (a b : Bool) (r : Gives × Option Transfer)
-        → firstOf ((0x16, isRefused (pick a (refuse 0x16) (pick b (refuse 0x16) (accept r)))) ∷ []) ≡ firstOf ((0x16, a) ∷ (0x16, b) ∷ [])
+    go : (a b : Bool) (r : Told × Option Transfer)
+        → firstOf ((isRefused (pick a (refuse 0x16) (pick b (refuse 0x16) (accept r))), 0x16) ∷ []) ≡ firstOf ((a, 0x16) ∷ (b, 0x16) ∷ [])
     go true b r = refl
     go false true r = refl
     go false false r = refl
@@ -67,16 +67,15 @@ first-head [] f g h = refl
 first-head (q ∷ l) f g h = h (q .1)
 
 then : (t : Test) (a b : List Test) → firstOf a ≡ firstOf b → firstOf (t ∷ a) ≡ firstOf (t ∷ b)
-unfolding firstOf
 then t a b h = ap (λ (x : Option ℕ). pick (t .1) (some (t .0)) x) h
 
 same-tests : (q : Queue) (k : Call coeMachine) → firstOf (tests coeMachine q k) ≡ firstOf (conditions q k)
 unfolding tests conditions
 same-tests q (enter s o) =
-    then _ _ _ (then _ _ _ (ap (λ (b : Bool). firstOf ((0x15, b) ∷ [])) (entry-15 o)))
+    then _ _ _ (then _ _ _ (ap (λ (b : Bool). firstOf ((b, 0x15) ∷ [])) (entry-15 o)))
 same-tests q (send s b) =
     then _ _ _ (then _ _ _ (then _ _ _ (first-head (q .line) _ _
-    (λ t. then _ _ _ (ap (λ (x : Bool). firstOf ((0x16, x) ∷ [])) (frame-16 t (q .pass .counter) b))))))
+    (λ t. then _ _ _ (ap (λ (x : Bool). firstOf ((x, 0x16) ∷ [])) (frame-16 t (q .pass .counter) b))))))
 same-tests q (receive s l) =
     then _ _ _ (then _ _ _ (then _ _ _ (first-head (q .line) _ _ (λ t. then _ _ _ (reply-16 t l)))))
 same-tests q (leave s) = refl
@@ -90,7 +89,7 @@ table-move (stays n) = refl
 table-move (joins s o t a f b) = refl
 table-move (asks {p = p} s b t r a e f) =
     ap {B = Told} (λ (x : List ℕ × Transfer). (plainOf 0x02, x .0)) (sym (sends-is t (p .counter) b r f .1))
-table-move (hears s m t r a e f) = ap {B = Told} (λ (x : Gives × Option Transfer). x .0) (sym (accepted t m r f .is))
+table-move (hears s m t r a e f) = ap {B = Told} (λ (x : Told × Option Transfer). x .0) (sym (accepted t m r f .is))
 table-move (goes s t a f) = refl
 
 table-step : (q : Queue) (k : Call coeMachine)

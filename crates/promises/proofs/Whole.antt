@@ -20,13 +20,13 @@ use Rattle.line.proofs.Refine.{entries-is}
 use Rattle.line.proofs.Apart.{each-alone}
 use Rattle.line.proofs.Ones.{each-keep, each-one}
 use Rattle.transfer.specs.Entry.{unfitOf, openedOf}
-use Rattle.transfer.specs.Coe.{beginsWith, coeMachine}
+use Rattle.transfer.specs.Coe.{Told, beginsWith, coeMachine}
 use Rattle.transfer.specs.Life.{begun, opens}
 use Rattle.transfer.specs.declared.Order.{Order}
 use Rattle.transfer.specs.declared.Transfer.{Transfer}
 use Rattle.desk.specs.Record.{viewOf}
 use Rattle.desk.specs.Calls.{answerFor, lentAfter}
-use Rattle.desk.specs.Stand.{Told, lentBy, deskStand, isAnswered}
+use Rattle.desk.specs.Stand.{lentBy, deskStand, isAnswered}
 use Rattle.desk.proofs.Demand.{says, desk-models}
 use Rattle.promises.specs.Standing.{Deed, opened, isOver, Goes}
 use Rattle.promises.specs.Whole.{Sums, Follows, EachFollows}
@@ -35,8 +35,8 @@ use Rattle.promises.proofs.Course.{here, goes-alone}
 use Rattle.promises.proofs.Sums as sums
 use Rattle.promises.proofs.Kept as kept
 
-abbrev Run : Type 0
-Run = List (Event coeMachine (Outcome coeMachine))
+abbrev Deeds : Type 0
+Deeds = List (Event coeMachine (Outcome coeMachine))
 
 opens-so : (o : Order) (t : Transfer) → beginsWith o ≡ accept t → (unfitOf o ≡ false) × (openedOf o ≡ t)
 unfolding beginsWith
@@ -109,12 +109,12 @@ sums-of {o = o} {rest = rest} F =
     orderOr o (x ∷ xs) = entered-by o (x .call)
 
 -- and so at a shared one
-follows-of : (t : Run) → OneTransfer (isAccepted coeMachine) t → AloneOf coeMachine t → Follows (map (retold says) t)
+follows-of : (t : Deeds) → OneTransfer (isAccepted coeMachine) t → AloneOf coeMachine t → Follows (map (retold says) t)
 follows-of t T A =
-    subst (λ (x : Run). Follows (map (retold says) x)) (A .run)
+    subst (λ (x : Deeds). Follows (map (retold says) x)) (A .run)
     (follows-alone (A .from) (A .counts) (calls t) (subst (OneTransfer (isAccepted coeMachine)) (sym (A .run)) T))
 
-all-follow : (ts : List Run) → Each (OneTransfer (isAccepted coeMachine)) ts → Each (AloneOf coeMachine) ts → Each Follows (map (map (retold says)) ts)
+all-follow : (ts : List Deeds) → Each (OneTransfer (isAccepted coeMachine)) ts → Each (AloneOf coeMachine) ts → Each Follows (map (map (retold says)) ts)
 all-follow [] T A = tt
 all-follow (t ∷ ts) T A = (follows-of t (T .0) (A .0), all-follow ts (T .1) (A .1))
 

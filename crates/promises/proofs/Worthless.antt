@@ -12,8 +12,8 @@ use Rattle.judge.specs.declared.Answer.{Answer}
 use Rattle.line.specs.Desk.{Pass, passAt, first, enter, send, receive}
 use Rattle.line.specs.Stand.{Stand, trace, after}
 use Rattle.line.specs.Numbers.{is1x}
-use Rattle.transfer.specs.Coe.{coeMachine}
-use Rattle.desk.specs.Stand.{Told, lentBy, deskStand}
+use Rattle.transfer.specs.Coe.{Told, coeMachine}
+use Rattle.desk.specs.Stand.{lentBy, deskStand}
 use Rattle.desk.proofs.Kept.{good-fresh}
 use Rattle.promises.specs.Standing.{Called}
 use Rattle.promises.specs.Table.{toldBy, ConditionTable, RequestAndStorage}

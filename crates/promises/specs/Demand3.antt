@@ -9,9 +9,9 @@ use Rattle.line.specs.Stand.{Stand, calls, trace}
 use Rattle.line.specs.Transfers.{OneTransfer}
 use Rattle.line.specs.Alone.{Demand3Of, listedOf}
 use Rattle.line.specs.Alone as line
-use Rattle.transfer.specs.Coe.{coeMachine}
+use Rattle.transfer.specs.Coe.{Told, coeMachine}
 use Rattle.desk.specs.Calls as desk
-use Rattle.desk.specs.Stand.{Told, lentBy, deskStand, isAnswered}
+use Rattle.desk.specs.Stand.{lentBy, deskStand, isAnswered}
 use Rattle.desk.specs.declared.Called as given
 use Rattle.desk.specs.declared.Desk.{Desk}
 use Rattle.promises.specs.Standing.{Called}
@@ -23,7 +23,7 @@ Demand3 = Demand3Of deskStand isAnswered
 
 -- The shipped desk is what the functions give. `enter` and `leave` ensure `Gives`, `send` and `receive` ensure `GivesLent`: the answer,
 -- the record and the lent buffer that they give are the stand's. `client::run` makes such calls one after another, and its contract is
--- a run of the stand (client/specs/Run).
+-- a run of the stand (client/specs/RunSeen).
 pub record ByTheFunctions : Type 0 where
   pub told : (d : Desk) (k : Called) (r : given.Called) → desk.Gives d k r
       → (r .answer ≡ deskStand .answers d k .0) × (r .desk ≡ deskStand .next d k)

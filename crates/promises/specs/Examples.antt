@@ -3,11 +3,11 @@
 use mathlib.Core.Path.{_≡_}
 use mathlib.Core.List.{List, _++_, map}
 use Prim.Native.Nat.{ℕ}
+use Rattle.transfer.specs.Coe.{Told}
 use Rattle.services.specs.Examples as frames
 use Rattle.judge.specs.Examples as replies
 use Rattle.reads.specs.Answers as value
 use Rattle.reads.specs.Examples as reads
-use Rattle.desk.specs.Stand.{Told}
 use Rattle.promises.specs.Runs.{runs}
 
 -- what is computed and what is expected, of any kind

@@ -1,5 +1,5 @@
 pub mod Fields
-pub mod Told
+pub mod Finding
 pub mod Rules
 pub mod Standing
 pub mod Demand1

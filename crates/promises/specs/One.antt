@@ -16,7 +16,7 @@ use Rattle.desk.specs.Change.{Changes, ChangesLent}
 use Rattle.desk.specs.declared.Called as given
 use Rattle.desk.specs.declared.Desk.{Desk}
 use Rattle.desk.specs.declared.change.Change.{Change}
-use Rattle.client.specs.Run.{Run}
+use Rattle.client.specs.RunSeen.{RunSeen}
 use Rattle.client.specs.declared.Seen.{Seen}
 use Rattle.promises.specs.Standing.{Called}
 
@@ -34,4 +34,4 @@ pub record Unique : Type 1 where
   pub changes : (d : Desk) (k : Called) → One (Changes d k)
   pub changes-lent : (d : Desk) (k : Called) (before : List ℕ) → One (λ (r : Change × List ℕ). ChangesLent d k (r .0) before (r .1))
   pub run : (seat : ℕ) (order : Order) (frame reply buffer : List ℕ)
-      → One (λ (r : Seen × List ℕ × List ℕ). Run seat order frame reply buffer (r .0) (r .1) (r .2))
+      → One (λ (r : Seen × List ℕ × List ℕ). RunSeen seat order frame reply buffer (r .0) (r .1) (r .2))

@@ -1,4 +1,4 @@
--- Document 01, "Judging a reply", a second time: its rules as lists of conditions on the reply's bytes, each with what is told
+-- Document 01, "Judging a reply", a second time: its rules as lists of conditions on the reply's bytes, each with what is finding
 -- where it holds. The statements say that the judge tells what the first of them that holds tells. s is the reply, n is this
 -- call's N, earlier the sum of the earlier chunks. Assumes nothing.
 use mathlib.Core.Path.{_≡_}
@@ -8,29 +8,25 @@ use mathlib.Core.Option.{Option, none, some}
 use Prim.Native.Nat.{ℕ, _+_, _-_, _<_}
 use lib.Dec.{ltb, leb, eqb}
 use lib.ListN.{length, take, drop}
-use Rattle.wire.specs.Words.{pick, both, either}
+use Rattle.wire.specs.Words.{pick, both, either, firstOf}
 use Rattle.wire.specs.Fields.{read}
 use Rattle.mailbox.specs.Fields.{Name, the, lengthField, mailboxType, service, expedited, size, specifier, index, subIndex, lastSegment, unusedCount, operation, incomplete}
 use Rattle.judge.specs.Answers.{oneOf}
 use Rattle.services.specs.Requests.{packedOf}
 use Rattle.transfer.specs.Entry.{unfitOf}
 use Rattle.transfer.specs.Due.{dueOf, requestDue, awaitingOf}
-use Rattle.transfer.specs.Judgement.{judgeReply, settled}
+use Rattle.transfer.specs.Judgement.{judgeReply, budgeted}
 use Rattle.transfer.specs.Coe.{requestIn, replyIn}
 use Rattle.transfer.specs.declared.Transfer.{Transfer}
 use Rattle.transfer.specs.declared.due.Reply.{Reply}
 use Rattle.transfer.specs.declared.due.Reply.the-variants as reply
 use Rattle.promises.specs.Fields.{whole}
-use Rattle.promises.specs.Told.{Told, told, refuse, emergency, aborted, done, thenRequest, thenReply}
+use Rattle.promises.specs.Finding.{Finding, finding, refuse, emergency, aborted, done, thenRequest, thenReply}
 
--- ---- a rule: under this condition, this is told
+-- ---- a rule: under this condition, this is finding
 
 abbrev pub Rule : Type 0
-Rule = Bool × Told
-
-abbrev pub firstOf : List Rule → Option Told
-firstOf [] = none
-firstOf (r ∷ rs) = pick (r .0) (some (r .1)) (firstOf rs)
+Rule = Bool × Finding
 
 abbrev pub otherwise : Bool
 otherwise = true
@@ -179,14 +175,14 @@ rules (reply.Fragment begun) earlier n s = information begun earlier n s
 -- "Each number is given exactly under its condition", with its values and its chunk.
 abbrev pub JudgedByRules : Type 0
 JudgedByRules = (due : Reply) (earlier n : ℕ) (s : List ℕ)
-    → firstOf (rules due earlier n s) ≡ some (told (judgeReply due earlier n s) s)
+    → firstOf (rules due earlier n s) ≡ some (finding (judgeReply due earlier n s) s)
 
 -- "When the count reaches the budget and the answer would be 01 or 02, it is 27 and the chunk is not stored."
 abbrev pub BudgetRule : Type 0
 BudgetRule = (spent : Bool) (due : Reply) (earlier n : ℕ) (s : List ℕ) →
-    let would = told (judgeReply due earlier n s) s in
+    let would = finding (judgeReply due earlier n s) s in
     let goesOn = either (eqb (would .0 .number) 0x01) (eqb (would .0 .number) 0x02) in
-    told (settled spent (judgeReply due earlier n s)) s ≡ pick (both spent goesOn) (refuse 0x27) would
+    finding (budgeted spent (judgeReply due earlier n s)) s ≡ pick (both spent goesOn) (refuse 0x27) would
 
 -- "the request's": a reply is held to the kind, index and sub-index that its request's frame has
 abbrev pub Answers : List ℕ → Reply → Type 0

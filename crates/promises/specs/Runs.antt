@@ -7,7 +7,8 @@ use Rattle.judge.specs.Answers.{plainOf, doneWith}
 use Rattle.line.specs.Desk.{passAt, enter, send, receive, leave}
 use Rattle.line.specs.Stand.{trace}
 use Rattle.transfer.specs.declared.Order.{Order}
-use Rattle.desk.specs.Stand.{Told, deskStand}
+use Rattle.transfer.specs.Coe.{Told}
+use Rattle.desk.specs.Stand.{deskStand}
 use Rattle.promises.specs.Standing.{Called, Deed}
 
 abbrev pub toldFrom : ℕ → List Called → List Told
@@ -71,9 +72,6 @@ sent frame = (plainOf 0x02, frame)
 abbrev pub refused : ℕ → List ℕ → Told
 refused n buffer = (plainOf n, buffer)
 
-abbrev pub Run : Type 0
-Run = List Told × List Told
-
 -- one frame of a transfer that is then left
 abbrev pub oneFrame : List Called
 oneFrame = enter 3 (upload 1) ∷ send 3 (blank 16) ∷ leave 3 ∷ []
@@ -81,7 +79,7 @@ oneFrame = enter 3 (upload 1) ∷ send 3 (blank 16) ∷ leave 3 ∷ []
 abbrev pub oneFrameWith : ℕ → List Told
 oneFrameWith frame = entered ∷ sent (hex 16 frame) ∷ left ∷ []
 
-abbrev pub runs : List Run
+abbrev pub runs : List (List Told × List Told)
 runs =
     -- (P) "Eighth frame: counter 1."
     (

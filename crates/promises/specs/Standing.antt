@@ -20,12 +20,11 @@ use Rattle.judge.specs.declared.Verdict.the-variants as verdict
 use Rattle.line.specs.Desk.{following, Call, enter, send, receive, leave}
 use Rattle.line.specs.Stand.{Event}
 use Rattle.transfer.specs.Due as begins
-use Rattle.transfer.specs.Judgement.{judgeReply, settled}
-use Rattle.transfer.specs.Coe.{Lends, coeMachine}
+use Rattle.transfer.specs.Judgement.{judgeReply, budgeted}
+use Rattle.transfer.specs.Coe.{Told, Lends, coeMachine}
 use Rattle.transfer.specs.declared.Order.{Order}
 use Rattle.transfer.specs.declared.due.Reply.{Reply}
 use Rattle.transfer.specs.declared.due.Reply.the-variants as reply
-use Rattle.desk.specs.Stand.{Told}
 
 abbrev pub Called : Type 0
 Called = Call coeMachine
@@ -109,7 +108,7 @@ replyAt o nothing = reply.Segment
 -- by the order's own budget, the true count and the true sum
 unfoldable pub verdictOf : Order → Standing → Lends → Verdict
 verdictOf o w l =
-    settled (eqb (suc (w .replies)) (o .budget)) (judgeReply (replyAt o (w .due)) (length (w .payload)) (length (l .1)) (l .0))
+    budgeted (eqb (suc (w .replies)) (o .budget)) (judgeReply (replyAt o (w .due)) (length (w .payload)) (length (l .1)) (l .0))
 
 -- what is due after a verdict, where d was
 unfoldable pub dueAfter : Due → Verdict → Due
@@ -153,18 +152,18 @@ isOver nothing = true
 
 -- what the call gives: the answer, and the lent buffer afterwards. "send: writes the head's due request with the next counter and
 -- answers 02"; "Each call writes only its own chunk, at the sum of the earlier ones"; "03: buffers unchanged"
-unfoldable pub Gives : Order → Standing → Called → Told → Type 0
-Gives o w (enter s e) t = ⊥
-Gives o w (send s b) t =
+unfoldable pub GivesAt : Order → Standing → Called → Told → Type 0
+GivesAt o w (enter s e) t = ⊥
+GivesAt o w (send s b) t =
     (isRequest (w .due) ≡ true)
     × (fits (length b) ≡ true)
     × (t ≡ (plainOf 0x02, inFront (packedOf (w .counter) (requestOf o w)) (length b)))
-Gives o w (receive s l) t =
+GivesAt o w (receive s l) t =
     (isReply (w .due) ≡ true)
     × (t ≡ (answerOf (verdictOf o w l), stored (verdictOf o w l) (l .0) (length (w .payload)) (l .1)))
-Gives o w (leave s) t = (isOver (w .due) ≡ false) × (t ≡ (plainOf 0x03, []))
+GivesAt o w (leave s) t = (isOver (w .due) ≡ false) × (t ≡ (plainOf 0x03, []))
 
 -- and so for each of its calls
 unfoldable pub Goes : Order → Standing → List Deed → Type 0
 Goes o w [] = Unit {0}
-Goes o w (x ∷ xs) = Gives o w (x .call) (x .told) × Goes o (moved o w (x .call)) xs
+Goes o w (x ∷ xs) = GivesAt o w (x .call) (x .told) × Goes o (moved o w (x .call)) xs

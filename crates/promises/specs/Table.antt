@@ -8,7 +8,7 @@ use mathlib.Core.Option.{Option, none, some}
 use Prim.Native.Nat.{ℕ}
 use lib.Dec.{ltb}
 use lib.ListN.{length}
-use Rattle.wire.specs.Words.{within}
+use Rattle.wire.specs.Words.{within, firstOf}
 use Rattle.wire.specs.Front.{inFront}
 use Rattle.services.specs.Requests.{packedOf}
 use Rattle.judge.specs.Answers.{plainOf, answerOf}
@@ -17,13 +17,13 @@ use Rattle.judge.specs.declared.Answer.{Answer}
 use Rattle.line.specs.Line.{Line, seated}
 use Rattle.line.specs.Desk.{Pass, enter, send, receive, leave, freshAt}
 use Rattle.line.specs.Stand.{Stand, after, lineStand}
-use Rattle.line.specs.Numbers.{Test, firstOf, leads, ofHead}
+use Rattle.line.specs.Numbers.{Test, leads, ofHead}
 use Rattle.transfer.specs.Entry.{unfitOf}
 use Rattle.transfer.specs.Due.{dueOf, requestDue}
-use Rattle.transfer.specs.Coe.{requestIn, judged, coeMachine}
+use Rattle.transfer.specs.Coe.{Told, requestIn, judged, coeMachine}
 use Rattle.transfer.specs.declared.Transfer.{Transfer}
 use Rattle.desk.specs.Record.{Queue, Good, viewOf}
-use Rattle.desk.specs.Stand.{Told, lentBy, deskStand}
+use Rattle.desk.specs.Stand.{lentBy, deskStand}
 use Rattle.desk.specs.declared.Desk.{Desk}
 use Rattle.promises.specs.Standing.{Called}
 
@@ -32,37 +32,37 @@ use Rattle.promises.specs.Standing.{Called}
 unfoldable pub conditions : Queue → Called → List Test
 conditions q (enter s o) =
     -- "seat above 7"
-    (0x10, ltb 7 s)
+    (ltb 7 s, 0x10)
     -- "seat taken"
-    ∷ (0x11, seated s (q .line))
+    ∷ (seated s (q .line), 0x11)
     -- "entry: data length not 1-4, list kind not 1-5, budget 0"
-    ∷ (0x15, unfitOf o)
+    ∷ (unfitOf o, 0x15)
     ∷ []
 conditions q (send s b) =
-    (0x10, ltb 7 s)
+    (ltb 7 s, 0x10)
     -- "seat empty"
-    ∷ (0x12, not (seated s (q .line)))
+    ∷ (not (seated s (q .line)), 0x12)
     -- "not at the head"
-    ∷ (0x13, not (leads s (q .line)))
+    ∷ (not (leads s (q .line)), 0x13)
     ∷ ofHead (q .line) (λ t.
     -- "the other of send and receive is due"
-    (0x14, not (requestDue t))
+    (not (requestDue t), 0x14)
     -- "frame buffer not 16 to 1,486 bytes"
-    ∷ (0x16, not (within 16 1486 (length b)))
+    ∷ (not (within 16 1486 (length b)), 0x16)
     ∷ [])
 conditions q (receive s l) =
-    (0x10, ltb 7 s)
-    ∷ (0x12, not (seated s (q .line)))
-    ∷ (0x13, not (leads s (q .line)))
+    (ltb 7 s, 0x10)
+    ∷ (not (seated s (q .line)), 0x12)
+    ∷ (not (leads s (q .line)), 0x13)
     ∷ ofHead (q .line) (λ t.
-    (0x14, requestDue t)
+    (requestDue t, 0x14)
     -- "reply above 1,486, N above 131,070"
-    ∷ (0x16, ltb 1486 (length (l .0)))
-    ∷ (0x16, ltb 131070 (length (l .1)))
+    ∷ (ltb 1486 (length (l .0)), 0x16)
+    ∷ (ltb 131070 (length (l .1)), 0x16)
     ∷ [])
 conditions q (leave s) =
-    (0x10, ltb 7 s)
-    ∷ (0x12, not (seated s (q .line)))
+    (ltb 7 s, 0x10)
+    ∷ (not (seated s (q .line)), 0x12)
     ∷ []
 
 -- ---- what is given back

@@ -7,7 +7,7 @@ use Prim.Native.Nat.{ℕ, _+_, _≤_}
 use lib.ListN.{length}
 use Rattle.wire.specs.Words.{within}
 use Rattle.judge.specs.Answers.{plainOf, doneWith}
-use Rattle.judge.specs.Run.{holding}
+use Rattle.judge.specs.Replies.{holding}
 use Rattle.line.specs.Lists.{Each, keep}
 use Rattle.line.specs.Desk.{enter, send, receive, leave}
 use Rattle.line.specs.Stand.{trace}
@@ -15,7 +15,8 @@ use Rattle.line.specs.Transfers.{transfers}
 use Rattle.transfer.specs.Entry.{unfitOf}
 use Rattle.transfer.specs.declared.Order.{Order}
 use Rattle.desk.specs.Record.{Good}
-use Rattle.desk.specs.Stand.{Told, deskStand, isAnswered}
+use Rattle.transfer.specs.Coe.{Told}
+use Rattle.desk.specs.Stand.{deskStand, isAnswered}
 use Rattle.desk.specs.declared.Desk.{Desk}
 use Rattle.promises.specs.Standing.{Called, Deed, Standing, opened, moved, Goes}
 

@@ -14,8 +14,8 @@ use Rattle.line.specs.Stand.{Stand, trace}
 use Rattle.line.specs.Transfers.{transfers}
 use Rattle.line.specs.Alone.{Demand3Of, listedOf}
 use Rattle.line.specs.Numbers.{is1x}
-use Rattle.transfer.specs.Coe.{Lends, coeMachine}
-use Rattle.desk.specs.Stand.{Told, lentBy, deskStand, isAnswered}
+use Rattle.transfer.specs.Coe.{Told, Lends, coeMachine}
+use Rattle.desk.specs.Stand.{lentBy, deskStand, isAnswered}
 use Rattle.desk.specs.declared.Desk.{Desk}
 use Rattle.promises.specs.Standing.{Called, Deed}
 use Rattle.promises.specs.Whole.{Follows}

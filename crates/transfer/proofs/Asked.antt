@@ -18,7 +18,7 @@ use Rattle.judge.specs.Storage.{stored}
 use Rattle.line.specs.Machine.{Ruling, refuse, accept}
 use Rattle.transfer.specs.Due.{dueOf, requestDue, awaitingOf}
 use Rattle.transfer.specs.Judgement.{judgedAs, nextOf}
-use Rattle.transfer.specs.Coe.{Gives, judged, sendsWith, sendsIfDue, receivesWith, receivesIfDue}
+use Rattle.transfer.specs.Coe.{Told, judged, sendsWith, sendsIfDue, receivesWith, receivesIfDue}
 use Rattle.transfer.specs.declared.Transfer.{Transfer}
 use Rattle.transfer.specs.declared.due.Due.the-variants as due
 use Rattle.transfer.specs.declared.due.Reply.{Reply}
@@ -66,7 +66,7 @@ module _ (t : Transfer) (s d : List ℕ) where
   unfolding receivesIfDue requestDue
   not-awaited e = rw e
 
-  abbrev came : Reply → Gives × Option Transfer
+  abbrev came : Reply → Told × Option Transfer
   came p = let v = judgedAs t p (length d) s in ((answerOf v, stored v s (t .sum) d), nextOf t v)
 
   pub awaited : {p : Reply} → dueOf t ≡ due.Reply p

@@ -14,13 +14,13 @@ use Rattle.judge.specs.Answers.{answerOf}
 use Rattle.judge.specs.Download.{judgeDownload}
 use Rattle.judge.specs.Upload.{judgeUpload}
 use Rattle.judge.specs.Storage.{taken}
-use Rattle.judge.specs.Run.{sumAfter}
+use Rattle.judge.specs.Replies.{sumAfter}
 use Rattle.judge.specs.declared.Verdict.{Verdict}
 use Rattle.judge.specs.declared.Verdict.the-variants.{Refused}
 use Rattle.judge.proofs.Cases.{Alarming, upload-cases, download-cases}
 use Rattle.judge.proofs.Payload.{Sound, segment-sound, list-sound, upload-kept, download-kept}
 use Rattle.transfer.specs.Due.{dueOf}
-use Rattle.transfer.specs.Judgement.{judgeReply, goesOn, settled}
+use Rattle.transfer.specs.Judgement.{judgeReply, goesOn, budgeted}
 use Rattle.transfer.specs.Coe.{replyIn}
 use Rattle.transfer.specs.declared.Transfer.{Transfer}
 use Rattle.transfer.specs.declared.due.Reply.{Reply}
@@ -83,8 +83,8 @@ by-reply t segment fragment first =
 -- ---- with the budget looked at
 
 -- a verdict that goes on, or is done, was not cut off by the budget
-pub not-spent : (spent : Bool) (v : Verdict) → goesOn (settled spent v) ≡ true → (spent ≡ false) × (settled spent v ≡ v)
-unfolding settled
+pub not-spent : (spent : Bool) (v : Verdict) → goesOn (budgeted spent v) ≡ true → (spent ≡ false) × (budgeted spent v ≡ v)
+unfolding budgeted
 not-spent false v e = (refl, refl)
 not-spent true v e = go (goesOn v) refl e
   where
@@ -92,8 +92,8 @@ not-spent true v e = go (goesOn v) refl e
     go true h k = absurd (false≢true k)
     go false h k = absurd (false≢true (sym h ∙ k))
 
-pub done-unsettled : (spent : Bool) (v : Verdict) → answerOf (settled spent v) .number ≡ 0x00 → settled spent v ≡ v
-unfolding settled answerOf
+pub done-unsettled : (spent : Bool) (v : Verdict) → answerOf (budgeted spent v) .number ≡ 0x00 → budgeted spent v ≡ v
+unfolding budgeted answerOf
 done-unsettled spent v = go (both spent (goesOn v))
   where
     go : (b : Bool) → answerOf (pick b (Refused 0x27) v) .number ≡ 0x00 → pick b (Refused 0x27) v ≡ v

@@ -11,14 +11,14 @@ use lib.ListN.{length, length-append}
 use Rattle.wire.proofs.Cases.{by}
 use Rattle.services.specs.declared.Request.the-variants as request
 use Rattle.judge.specs.Storage.{taken}
-use Rattle.judge.specs.Run.{sumAfter}
+use Rattle.judge.specs.Replies.{sumAfter}
 use Rattle.judge.specs.declared.Verdict.{Verdict}
 use Rattle.judge.specs.declared.Verdict.the-variants.{Refused, Emergency, Aborted, Done, SegmentsFollow, Segment, Fragment, ReplyDue}
 use Rattle.judge.proofs.Payload.{segment-sound, list-sound}
 use Rattle.transfer.specs.Stage.{firstRequestDue, firstReplyDue, segmentRequestDue, segmentReplyDue, laterFragmentDue}
 use Rattle.transfer.specs.Entry.{unfitOf}
 use Rattle.transfer.specs.Due.{dueOf, flippedOf, awaitingOf}
-use Rattle.transfer.specs.Judgement.{judgeReply, goesOn, settled, judgedAs, advancedTo, nextOf}
+use Rattle.transfer.specs.Judgement.{judgeReply, goesOn, budgeted, judgedAs, advancedTo, nextOf}
 use Rattle.transfer.specs.Coe.{replyIn, judged}
 use Rattle.transfer.specs.Life.{Life, begun, asked, fetched, replied, TogglesAlternate, BudgetKept, LengthIsSum}
 use Rattle.transfer.specs.declared.Order.{Order}
@@ -163,7 +163,7 @@ pub budget-kept : BudgetKept
 unfolding judged judgedAs
 budget-kept o t r k p L n s =
     let T = life-true L in
-    ap₂ (λ (b : Bool) (x : ℕ). settled b (judgeReply (replyIn (dueOf t)) x n s)) (last-reply o t r k p T) (T .sum)
+    ap₂ (λ (b : Bool) (x : ℕ). budgeted b (judgeReply (replyIn (dueOf t)) x n s)) (last-reply o t r k p T) (T .sum)
 
 reply-ends : (t : Transfer) (d s : List ℕ) → (t .stage ≤ 1 → t .sum ≡ 0)
     → Ends (t .sum) s (judgeReply (replyIn (dueOf t)) (t .sum) (length d) s)
@@ -179,6 +179,6 @@ unfolding judged judgedAs
 length-is-sum o t r k p L d s e =
     let T = life-true L in
     let v = judgeReply (replyIn (dueOf t)) (t .sum) (length d) s in
-    let q : settled (leb (t .left) 1) v ≡ v = done-unsettled (leb (t .left) 1) v e in
+    let q : budgeted (leb (t .left) 1) v ≡ v = done-unsettled (leb (t .left) 1) v e in
     let w = reply-ends t d s (λ h. T .sum ∙ T .early h) (rw q at e) in
     rw q (omega (arith, w, T .sum, length-append p (taken v s)))

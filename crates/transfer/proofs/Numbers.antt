@@ -25,8 +25,8 @@ use Rattle.line.proofs.Rulings.{pick-accept, accept-eq}
 use Rattle.line.proofs.Refusals.{only-pick}
 use Rattle.transfer.specs.Entry.{unfitOf}
 use Rattle.transfer.specs.Due.{dueOf}
-use Rattle.transfer.specs.Judgement.{judgeReply, goesOn, settled, judgedAs, judgedNumbers}
-use Rattle.transfer.specs.Coe.{Lends, Gives, replyIn, judged, receipt, beginsWith, sendsWith, receivesWith, coeMachine}
+use Rattle.transfer.specs.Judgement.{judgeReply, goesOn, budgeted, judgedAs, judgedNumbers}
+use Rattle.transfer.specs.Coe.{Lends, Told, replyIn, judged, receipt, beginsWith, sendsWith, receivesWith, coeMachine}
 use Rattle.transfer.specs.declared.Order.{Order}
 use Rattle.transfer.specs.declared.Transfer.{Transfer}
 use Rattle.transfer.specs.declared.due.Reply.{Reply}
@@ -62,8 +62,8 @@ both-first : (a b : Bool) → both a b ≡ true → a ≡ true
 both-first true b h = refl
 both-first false b h = absurd (false≢true h)
 
-settled-number : (spent : Bool) (v : Verdict) → Listed (answerOf v .number) → Listed (answerOf (settled spent v) .number)
-unfolding settled answerOf
+settled-number : (spent : Bool) (v : Verdict) → Listed (answerOf v .number) → Listed (answerOf (budgeted spent v) .number)
+unfolding budgeted answerOf
 settled-number spent v h = go (both spent (goesOn v))
   where
     go : (b : Bool) → Listed (answerOf (pick b (Refused 0x27) v) .number)
@@ -102,12 +102,12 @@ unfolding receivesWith
 receive-16 t l = only-pick 0x16 (ltb 1486 (length (l .0))) _ (only-pick 0x16 (ltb 131070 (length (l .1))) _ tt)
 
 -- an accepted reply is short enough, so is the buffer, and what is given is the receipt
-pub record Accepted (t : Transfer) (l : Lends) (r : Gives × Option Transfer) : Type 0 where
+pub record Accepted (t : Transfer) (l : Lends) (r : Told × Option Transfer) : Type 0 where
   pub reply-fits : ltb 1486 (length (l .0)) ≡ false
   pub buffer-fits : ltb 131070 (length (l .1)) ≡ false
   pub is : receipt t (l .0) (l .1) ≡ r
 
-pub accepted : (t : Transfer) (l : Lends) (r : Gives × Option Transfer) → receivesWith t l ≡ accept r → Accepted t l r
+pub accepted : (t : Transfer) (l : Lends) (r : Told × Option Transfer) → receivesWith t l ≡ accept r → Accepted t l r
 unfolding receivesWith
 accepted t l r e =
     let a = pick-accept (ltb 1486 (length (l .0))) 0x16 _ e in
@@ -120,7 +120,7 @@ coeNumbered = record {
   at-entry = entry-15;
   at-send = send-16;
   at-receive = receive-16;
-  judged = λ t l r e.
-      ap (λ (x : Gives × Option Transfer). is1x (x .0 .0 .number)) (sym (accepted t l r e .is))
+  at-judgement = λ t l r e.
+      ap (λ (x : Told × Option Transfer). is1x (x .0 .0 .number)) (sym (accepted t l r e .is))
       ∙ not-1x t (length (l .1)) (l .0);
 }

@@ -11,7 +11,7 @@ use Rattle.judge.specs.Storage.{taken, stored}
 use Rattle.judge.proofs.Laid.{laid-nil, laid-front, laid-length, laid-join}
 use Rattle.judge.proofs.Payload.{segment-sound, list-sound}
 use Rattle.transfer.specs.Due.{dueOf}
-use Rattle.transfer.specs.Judgement.{judgeReply, settled, judgedAs}
+use Rattle.transfer.specs.Judgement.{judgeReply, budgeted, judgedAs}
 use Rattle.transfer.specs.Coe.{replyIn, judged}
 use Rattle.transfer.specs.Life.{Life, begun, asked, fetched, replied, Filled, opens, asks, fetches, hears, PayloadLies}
 use Rattle.transfer.specs.declared.Order.{Order}
@@ -76,7 +76,7 @@ payload-lies o t r k p d₀ d F s e =
     let H = filled-holds F in
     let T = life-true (H .life) in
     let v = judgeReply (replyIn (dueOf t)) (t .sum) (length d) s in
-    let q : settled (leb (t .left) 1) v ≡ v = done-unsettled (leb (t .left) 1) v e in
+    let q : budgeted (leb (t .left) 1) v ≡ v = done-unsettled (leb (t .left) 1) v e in
     let x = chunk t d s in
     let l : length d ≡ length d₀ = ap length (H .lies) ∙ laid-length d₀ 0 p (omega (arith, H .room)) in
     let small : t .sum ≤ length d = omega (arith, T .sum, l, H .room) in

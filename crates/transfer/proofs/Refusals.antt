@@ -12,7 +12,7 @@ use Rattle.judge.specs.declared.Verdict.{Verdict}
 use Rattle.judge.specs.declared.Verdict.the-variants.{Refused, Emergency, Aborted, Done, SegmentsFollow, Segment, Fragment, ReplyDue}
 use Rattle.judge.proofs.Payload.{refused-stores-nothing}
 use Rattle.transfer.specs.Judgement.{unlessLast, nextOf}
-use Rattle.transfer.specs.Coe.{Gives, judged, receivesWith, sendsIfDue, receivesIfDue}
+use Rattle.transfer.specs.Coe.{Told, judged, receivesWith, sendsIfDue, receivesIfDue}
 use Rattle.transfer.specs.Refusals.{OtherDue, TooLong, EndsUnstored}
 use Rattle.transfer.specs.declared.Transfer.{Transfer}
 use Rattle.transfer.proofs.Numbers.{accepted}
@@ -48,7 +48,7 @@ pub ends-unstored : EndsUnstored
 ends-unstored t l r e h =
     let A = accepted t l r e .is in
     let v = judged t (length (l .1)) (l .0) in
-    let g : leb 0x20 (answerOf v .number) ≡ true = ap (λ (x : Gives × Option Transfer). leb 0x20 (x .0 .0 .number)) A ∙ h in (
-      ap (λ (x : Gives × Option Transfer). x .0 .1) (sym A) ∙ refused-stores-nothing v (l .0) (t .sum) (l .1) g,
-      ap (λ (x : Gives × Option Transfer). x .1) (sym A) ∙ over t v g,
+    let g : leb 0x20 (answerOf v .number) ≡ true = ap (λ (x : Told × Option Transfer). leb 0x20 (x .0 .0 .number)) A ∙ h in (
+      ap (λ (x : Told × Option Transfer). x .0 .1) (sym A) ∙ refused-stores-nothing v (l .0) (t .sum) (l .1) g,
+      ap (λ (x : Told × Option Transfer). x .1) (sym A) ∙ over t v g,
     )

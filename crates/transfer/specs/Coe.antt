@@ -36,9 +36,9 @@ use Rattle.transfer.specs.declared.due.Reply.the-variants as reply
 abbrev pub Lends : Type 0
 Lends = List ℕ × List ℕ
 
--- the number with its values, and the data buffer afterwards
-abbrev pub Gives : Type 0
-Gives = Answer × List ℕ
+-- what is told of a call: the number with its values, and the lent buffer afterwards
+abbrev pub Told : Type 0
+Told = Answer × List ℕ
 
 unfoldable pub beginsWith : Order → Ruling Transfer
 beginsWith o = pick (unfitOf o) (refuse 0x15) (accept (openedOf o))
@@ -64,13 +64,13 @@ unfoldable pub judged : Transfer → ℕ → List ℕ → Verdict
 judged t n s = judgedAs t (replyIn (dueOf t)) n s
 
 -- "Each call writes only its own chunk, at the sum of the earlier ones."
-abbrev pub receipt : Transfer → List ℕ → List ℕ → Gives × Option Transfer
+abbrev pub receipt : Transfer → List ℕ → List ℕ → Told × Option Transfer
 receipt t s d =
     let v = judged t (length d) s in
     ((answerOf v, stored v s (t .sum) d), nextOf t v)
 
 -- 16: "reply above 1,486, N above 131,070"
-unfoldable pub receivesWith : Transfer → Lends → Ruling (Gives × Option Transfer)
+unfoldable pub receivesWith : Transfer → Lends → Ruling (Told × Option Transfer)
 receivesWith t l =
     pick (ltb 1486 (length (l .0))) (refuse 0x16)
     (pick (ltb 131070 (length (l .1))) (refuse 0x16)
@@ -82,7 +82,7 @@ coeMachine = record {
   Lent = List ℕ;
   Frame = List ℕ;
   Reply = Lends;
-  Answer = Gives;
+  Answer = Told;
   Transfer = Transfer;
   begin = beginsWith;
   sendDue = requestDue;
@@ -95,7 +95,7 @@ coeMachine = record {
 unfoldable pub sendsIfDue : Transfer → ℕ → List ℕ → Ruling (List ℕ × Transfer)
 sendsIfDue t counter frame = pick (requestDue t) (sendsWith t counter frame) (refuse 0x14)
 
-unfoldable pub receivesIfDue : Transfer → List ℕ → List ℕ → Ruling (Gives × Option Transfer)
+unfoldable pub receivesIfDue : Transfer → List ℕ → List ℕ → Ruling (Told × Option Transfer)
 receivesIfDue t s d = pick (requestDue t) (refuse 0x14) (receivesWith t (s, d))
 
 -- ---- a ruling as an enum, and each lent buffer as it is afterwards: "all unchanged, also for all 1x"
@@ -112,10 +112,10 @@ abbrev pub frameOf : List ℕ → Ruling (List ℕ × Transfer) → List ℕ
 frameOf frame (refuse n) = frame
 frameOf frame (accept r) = r .0
 
-abbrev pub stepOf : Ruling (Gives × Option Transfer) → Step
+abbrev pub stepOf : Ruling (Told × Option Transfer) → Step
 stepOf (refuse n) = step.Refused n
 stepOf (accept r) = step.Judged (r .0 .0) (nextWith (r .1))
 
-abbrev pub dataOf : List ℕ → Ruling (Gives × Option Transfer) → List ℕ
+abbrev pub dataOf : List ℕ → Ruling (Told × Option Transfer) → List ℕ
 dataOf d (refuse n) = d
 dataOf d (accept r) = r .0 .1

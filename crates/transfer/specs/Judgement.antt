@@ -37,12 +37,12 @@ goesOn (Fragment from len sum last) = not last
 goesOn ReplyDue = true
 
 -- "When the count reaches the budget and the answer would be 01 or 02, it is 27 and the chunk is not stored."
-unfoldable pub settled : Bool → Verdict → Verdict
-settled spent v = pick (both spent (goesOn v)) (Refused 0x27) v
+unfoldable pub budgeted : Bool → Verdict → Verdict
+budgeted spent v = pick (both spent (goesOn v)) (Refused 0x27) v
 
 -- the count reaches the budget where at most one reply is left
 unfoldable pub judgedAs : Transfer → Reply → ℕ → List ℕ → Verdict
-judgedAs t due n s = settled (leb (t .left) 1) (judgeReply due (t .sum) n s)
+judgedAs t due n s = budgeted (leb (t .left) 1) (judgeReply due (t .sum) n s)
 
 -- "Numbers the desk gives back": those that a judged reply can be answered
 abbrev pub judgedNumbers : List ℕ

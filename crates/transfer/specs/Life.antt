@@ -9,11 +9,11 @@ use lib.ListN.{length}
 use Rattle.services.specs.declared.Request.the-variants as request
 use Rattle.judge.specs.Answers.{answerOf}
 use Rattle.judge.specs.Storage.{taken, stored}
-use Rattle.judge.specs.Run.{holding}
+use Rattle.judge.specs.Replies.{holding}
 use Rattle.transfer.specs.Stage.{firstRequestDue, segmentRequestDue}
 use Rattle.transfer.specs.Entry.{unfitOf, openedOf}
 use Rattle.transfer.specs.Due.{dueOf, requestDue, awaitingOf}
-use Rattle.transfer.specs.Judgement.{judgeReply, settled, nextOf}
+use Rattle.transfer.specs.Judgement.{judgeReply, budgeted, nextOf}
 use Rattle.transfer.specs.Coe.{replyIn, judged}
 use Rattle.transfer.specs.declared.Order.{Order}
 use Rattle.transfer.specs.declared.Transfer.{Transfer}
@@ -41,7 +41,7 @@ TogglesAlternate = (o : Order) (t : Transfer) (replies segments : ℕ) (payload 
 abbrev pub BudgetKept : Type 0
 BudgetKept = (o : Order) (t : Transfer) (replies segments : ℕ) (payload : List ℕ) → Life o t replies segments payload
     → (n : ℕ) (s : List ℕ)
-    → judged t n s ≡ settled (eqb (suc replies) (o .budget)) (judgeReply (replyIn (dueOf t)) (length payload) n s)
+    → judged t n s ≡ budgeted (eqb (suc replies) (o .budget)) (judgeReply (replyIn (dueOf t)) (length payload) n s)
 
 -- "After the last, P is the sum of chunks", and of an upload in one reply the bytes that it brings
 abbrev pub LengthIsSum : Type 0

@@ -8,7 +8,7 @@ use lib.Dec.{leb}
 use lib.ListN.{length}
 use Rattle.line.specs.Machine.{refuse, accept}
 use Rattle.transfer.specs.Due.{requestDue}
-use Rattle.transfer.specs.Coe.{Lends, Gives, sendsIfDue, receivesWith, receivesIfDue}
+use Rattle.transfer.specs.Coe.{Lends, Told, sendsIfDue, receivesWith, receivesIfDue}
 use Rattle.transfer.specs.declared.Transfer.{Transfer}
 
 -- "14: the other of send and receive is due", before 16
@@ -25,6 +25,6 @@ TooLong = (t : Transfer) (s d : List ℕ) → requestDue t ≡ false →
 
 -- 20: "transfer over, buffers unchanged by this call, also for all 2x", so a chunk that 27 cuts off is not stored
 abbrev pub EndsUnstored : Type 0
-EndsUnstored = (t : Transfer) (l : Lends) (r : Gives × Option Transfer) → receivesWith t l ≡ accept r → leb 0x20 (r .0 .0 .number) ≡ true →
+EndsUnstored = (t : Transfer) (l : Lends) (r : Told × Option Transfer) → receivesWith t l ≡ accept r → leb 0x20 (r .0 .0 .number) ≡ true →
     (r .0 .1 ≡ l .1)
     × (r .1 ≡ none)

@@ -7,7 +7,7 @@ use crate::stage::SEGMENT_REQUEST;
 use judge::Verdict;
 ghost use mathlib.Core.Path.{_≡_};
 ghost use Prim.Native.Nat.{_-_};
-ghost use Rattle.transfer.specs.Judgement.{judgeReply, goesOn, settled, judgedAs, advancedTo, unlessLast, nextOf, nextWith};
+ghost use Rattle.transfer.specs.Judgement.{judgeReply, goesOn, budgeted, judgedAs, advancedTo, unlessLast, nextOf, nextWith};
 
 // sum: of the earlier chunks; n: the data buffer's length.
 fn judge_reply(due: Reply, s: &[u8], sum: u32, n: u32) -> Verdict
@@ -54,7 +54,7 @@ fn goes_on(verdict: Verdict) -> bool
 }
 
 fn settle(spent: bool, verdict: Verdict) -> Verdict
-    ensures { λ r. ⌜ r ≡ settled spent verdict ⌝ }
+    ensures { λ r. ⌜ r ≡ budgeted spent verdict ⌝ }
 {
     if spent {
         if goes_on(verdict) {

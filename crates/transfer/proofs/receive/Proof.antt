@@ -31,9 +31,5 @@ returns-4 c =
 
 pub receive-spec : {M : Type 1} → statement M
 receive-spec =
-    let enum-known-due : tie.Need-enum-known-due = λ c. search needs in
-    let enum-told : tie.Need-enum-told = λ c. search needs in
-    let cast-judge-due : tie.Need-cast-judge-due = λ c. search needs in
-    let cast-store : tie.Need-cast-store = λ c. search needs in
-    let same-length : tie.Need-same-length = λ c. search needs in
-    tie.close (search (tie.spec, enum-known-due, enum-told, returns, returns-2, returns-3, cast-judge-due, cast-store, same-length, returns-4))
+    let rest : tie.Need-enum-known-due × tie.Need-enum-told × tie.Need-cast-judge-due × tie.Need-cast-store × tie.Need-same-length = search needs in
+    tie.close (search (tie.spec, rest, returns, returns-2, returns-3, returns-4))

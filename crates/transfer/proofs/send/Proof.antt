@@ -29,10 +29,5 @@ returns-3 c =
 
 pub send-spec : {M : Type 1} → statement M
 send-spec =
-    let enum-known-request : tie.Need-enum-known-request = λ c. search needs in
-    let enum-told : tie.Need-enum-told = λ c. search needs in
-    let enum-told-2 : tie.Need-enum-told-2 = λ c. search needs in
-    let enum-told-3 : tie.Need-enum-told-3 = λ c. search needs in
-    let same-length : tie.Need-same-length = λ c. search needs in
-    let same-length-2 : tie.Need-same-length-2 = λ c. search needs in
-    tie.close (search (tie.spec, enum-known-request, enum-told, returns, enum-told-2, enum-told-3, same-length, returns-2, same-length-2, returns-3))
+    let rest : tie.Need-enum-known-request × tie.Need-enum-told × tie.Need-enum-told-2 × tie.Need-enum-told-3 × tie.Need-same-length × tie.Need-same-length-2 = search needs in
+    tie.close (search (tie.spec, rest, returns, returns-2, returns-3))

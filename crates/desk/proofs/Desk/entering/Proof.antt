@@ -70,6 +70,5 @@ returns-4 c =
 
 pub entering-spec : {M : Type 1} → statement M
 entering-spec =
-    let enum-known-start : tie.Need-enum-known-start = λ c. search needs in
-    let enum-known-start-2 : tie.Need-enum-known-start-2 = λ c. search needs in
-    tie.close (search (tie.spec, returns, place-requires, returns-2, enum-known-start, enum-known-start-2, joins-requires, returns-3, returns-4))
+    let rest : tie.Need-enum-known-start × tie.Need-enum-known-start-2 = search needs in
+    tie.close (search (tie.spec, rest, returns, place-requires, returns-2, joins-requires, returns-3, returns-4))

@@ -61,20 +61,6 @@ returns-3 c =
 
 pub receiving-spec : {M : Type 1} → statement M
 receiving-spec =
-    tie.close
-    (tie.spec
-    (λ c κs. c .before .before .pre)
-    (λ c. search needs)
-    (λ c. search needs)
-    (λ c κs. tt)
-    (λ c κs. tt)
-    returns
-    (λ c κs. tt)
-    (λ c. search needs)
-    (λ c κs. tt)
-    (λ c. search needs)
-    moves-on-requires
-    (λ c. search needs)
-    returns-2
-    (λ c. search needs)
-    returns-3)
+    let rest : tie.Need-enum-known-whose × tie.Need-enum-told × tie.Need-enum-known-step × tie.Need-enum-known-step-2 × tie.Need-same-length × tie.Need-same-length-2 = search needs in
+    let whose-turn-requires : tie.Need-whose-turn-requires = λ c κs. c .before .before .pre in
+    tie.close (search (tie.spec, rest, whose-turn-requires, returns, moves-on-requires, returns-2, returns-3))

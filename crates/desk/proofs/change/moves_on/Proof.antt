@@ -12,7 +12,6 @@ returns-2 c = rw (c .before .before .next .given .1) (c .heads .ensures)
 
 pub moves-on-spec : {M : Type 1} → statement M
 moves-on-spec =
-    let enum-told : tie.Need-enum-told = λ c. search needs in
+    let rest : tie.Need-enum-told × tie.Need-enum-known-next = search needs in
     let closes-requires : tie.Need-closes-requires = λ c κs. omega arith in
-    let enum-known-next : tie.Need-enum-known-next = λ c. search needs in
-    tie.close (search (tie.spec, enum-told, closes-requires, enum-known-next, returns, returns-2))
+    tie.close (search (tie.spec, rest, closes-requires, returns, returns-2))

@@ -24,6 +24,5 @@ returns-3 c =
 
 pub judge-list-spec : {M : Type 1} → statement M
 judge-list-spec =
-    let enum-known-h : tie.Need-enum-known-h = λ c. search needs in
-    let enum-told : tie.Need-enum-told = λ c. search needs in
-    tie.close (search (tie.spec, enum-known-h, enum-told, returns, returns-2, returns-3))
+    let rest : tie.Need-enum-known-h × tie.Need-enum-told = search needs in
+    tie.close (search (tie.spec, rest, returns, returns-2, returns-3))

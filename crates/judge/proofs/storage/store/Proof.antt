@@ -39,33 +39,5 @@ returns-8 c = rw (c .enum-told5 .given .1) (laid-nil _ (c .before .before .befor
 
 pub store-spec : {M : Type 1} → statement M
 store-spec =
-    tie.close
-    (tie.spec
-    (λ c. search needs)
-    (λ c. search needs)
-    (λ c. search needs)
-    (λ c. search needs)
-    (λ c. search needs)
-    (λ c. search needs)
-    (λ c κs. tt)
-    (λ c. search needs)
-    (λ c. search needs)
-    (λ c. search needs)
-    (λ c. search needs)
-    (λ c κs. tt)
-    (λ c. search needs)
-    (λ c. search needs)
-    (λ c. search needs)
-    (λ c κs. tt)
-    (λ c. search needs)
-    returns
-    returns-2
-    returns-3
-    (λ c. search needs)
-    returns-4
-    returns-5
-    (λ c. search needs)
-    returns-6
-    (λ c. search needs)
-    returns-7
-    returns-8)
+    let rest : tie.Need-enum-told × tie.Need-enum-told-2 × tie.Need-enum-told-3 × tie.Need-enum-known-verdict × tie.Need-cast-store-chunk × tie.Need-cast-store-chunk-2 × tie.Need-enum-told-4 × tie.Need-enum-known-verdict-2 × tie.Need-cast-store-chunk-3 × tie.Need-cast-store-chunk-4 × tie.Need-enum-known-verdict-3 × tie.Need-cast-store-chunk-5 × tie.Need-cast-store-chunk-6 × tie.Need-enum-told-5 × tie.Need-same-length × tie.Need-same-length-2 × tie.Need-same-length-3 = search needs in
+    tie.close (search (tie.spec, rest, returns, returns-2, returns-3, returns-4, returns-5, returns-6, returns-7, returns-8))

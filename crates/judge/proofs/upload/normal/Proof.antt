@@ -43,6 +43,5 @@ returns-4 c =
 
 pub normal-spec : {M : Type 1} → statement M
 normal-spec =
-    let cast-if3 : tie.Need-cast-if3 = λ c. search needs in
-    let whole-requires : tie.Need-whole-requires = λ c κs. search needs in
-    tie.close (search (tie.spec, returns, returns-2, cast-if3, whole-requires, returns-3, returns-4))
+    let rest : tie.Need-cast-if3 × tie.Need-whole-requires = search needs in
+    tie.close (search (tie.spec, rest, returns, returns-2, returns-3, returns-4))

@@ -26,9 +26,5 @@ returns-5 c = simp (← c .before .before .kind-of .ensures, c .enum-told3 .give
 
 pub first-reply-spec : {M : Type 1} → statement M
 first-reply-spec =
-    let enum-known-kind : tie.Need-enum-known-kind = λ c. search needs in
-    let enum-known-kind-2 : tie.Need-enum-known-kind-2 = λ c. search needs in
-    let enum-told : tie.Need-enum-told = λ c. search needs in
-    let enum-told-2 : tie.Need-enum-told-2 = λ c. search needs in
-    let enum-told-3 : tie.Need-enum-told-3 = λ c. search needs in
-    tie.close (search (tie.spec, enum-known-kind, enum-known-kind-2, enum-told, enum-told-2, enum-told-3, returns, returns-2, returns-3, returns-4, returns-5))
+    let rest : tie.Need-enum-known-kind × tie.Need-enum-known-kind-2 × tie.Need-enum-told × tie.Need-enum-told-2 × tie.Need-enum-told-3 = search needs in
+    tie.close (search (tie.spec, rest, returns, returns-2, returns-3, returns-4, returns-5))

@@ -31,10 +31,5 @@ returns-6 c = simp (ne-eqb _ _ (c .before .before .before .if1 .left), ← c .be
 
 pub unfit-spec : {M : Type 1} → statement M
 unfit-spec =
-    let enum-told : tie.Need-enum-told = λ c. search needs in
-    let enum-told-2 : tie.Need-enum-told-2 = λ c. search needs in
-    let cast-is-outside : tie.Need-cast-is-outside = λ c. search needs in
-    let enum-told-3 : tie.Need-enum-told-3 = λ c. search needs in
-    let enum-told-4 : tie.Need-enum-told-4 = λ c. search needs in
-    let enum-told-5 : tie.Need-enum-told-5 = λ c. search needs in
-    tie.close (search (tie.spec, returns, enum-told, enum-told-2, cast-is-outside, enum-told-3, enum-told-4, enum-told-5, returns-2, returns-3, returns-4, returns-5, returns-6))
+    let rest : tie.Need-enum-told × tie.Need-enum-told-2 × tie.Need-cast-is-outside × tie.Need-enum-told-3 × tie.Need-enum-told-4 × tie.Need-enum-told-5 = search needs in
+    tie.close (search (tie.spec, rest, returns, returns-2, returns-3, returns-4, returns-5, returns-6))

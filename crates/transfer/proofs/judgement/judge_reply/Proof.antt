@@ -22,8 +22,5 @@ returns-4 c = simp (c .before .before .due3 .given .1, ← c .judge-list .ensure
 
 pub judge-reply-spec : {M : Type 1} → statement M
 judge-reply-spec =
-    let enum-known-due : tie.Need-enum-known-due = λ c. search needs in
-    let enum-known-due-2 : tie.Need-enum-known-due-2 = λ c. search needs in
-    let enum-told : tie.Need-enum-told = λ c. search needs in
-    let enum-known-due-3 : tie.Need-enum-known-due-3 = λ c. search needs in
-    tie.close (search (tie.spec, enum-known-due, enum-known-due-2, enum-told, enum-known-due-3, returns, returns-2, returns-3, returns-4))
+    let rest : tie.Need-enum-known-due × tie.Need-enum-known-due-2 × tie.Need-enum-told × tie.Need-enum-known-due-3 = search needs in
+    tie.close (search (tie.spec, rest, returns, returns-2, returns-3, returns-4))

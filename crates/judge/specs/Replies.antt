@@ -33,12 +33,12 @@ abbrev pub byFragments : Judge
 byFragments begun earlier n s = judgeList begun earlier n s
 
 -- between two replies: whether the list has begun, the chunks so far, joined, and the one buffer
-pub record Run : Type 0 where
+pub record SoFar : Type 0 where
   pub begun : Bool
   pub payload : List ℕ
   pub buffer : List ℕ
 
-abbrev pub fresh : List ℕ → Run
+abbrev pub fresh : List ℕ → SoFar
 fresh d = record { begun = false; payload = []; buffer = d }
 
 -- "the first operation 2 reply" begins the list
@@ -52,11 +52,11 @@ begins (Segment from len sum last) = false
 begins (Fragment from len sum last) = true
 begins ReplyDue = false
 
-abbrev pub judgedIn : Judge → Run → List ℕ → Verdict
+abbrev pub judgedIn : Judge → SoFar → List ℕ → Verdict
 judgedIn judge r s = judge (r .begun) (length (r .payload)) (length (r .buffer)) s
 
 -- "Each call writes only its own chunk, at the sum of the earlier ones. Chunks are stored as they come."
-abbrev pub next : Judge → Run → List ℕ → Run
+abbrev pub next : Judge → SoFar → List ℕ → SoFar
 next judge r s =
     record {
       begun = either (r .begun) (begins (judgedIn judge r s));
@@ -64,7 +64,7 @@ next judge r s =
       buffer = stored (judgedIn judge r s) s (length (r .payload)) (r .buffer);
     }
 
-abbrev pub after : Judge → Run → List (List ℕ) → Run
+abbrev pub after : Judge → SoFar → List (List ℕ) → SoFar
 after judge r [] = r
 after judge r (s ∷ ss) = after judge (next judge r s) ss
 
@@ -73,7 +73,7 @@ abbrev pub holding : List ℕ → List ℕ → List ℕ
 holding p d = take (min (length p) (length d)) p ++ drop (min (length p) (length d)) d
 
 -- the run's answer and its buffer, which was d when it was first lent
-pub record Kept (d : List ℕ) (answer : Answer) (r : Run) : Type 0 where
+pub record Kept (d : List ℕ) (answer : Answer) (r : SoFar) : Type 0 where
   pub length-is : answer .length ≡ length (r .payload)
   pub lies : r .buffer ≡ holding (r .payload) d
 

@@ -5,8 +5,8 @@ use Prim.Native.Nat.{ℕ}
 use Rattle.line.specs.Desk.{first, Call, enter, send, receive, leave}
 use Rattle.line.specs.Stand.{Event, trace}
 use Rattle.transfer.specs.declared.Order.{Order}
-use Rattle.transfer.specs.Coe.{coeMachine}
-use Rattle.desk.specs.Stand.{Told, deskStand}
+use Rattle.transfer.specs.Coe.{Told, coeMachine}
+use Rattle.desk.specs.Stand.{deskStand}
 use Rattle.client.specs.declared.Seen.{Seen}
 
 abbrev pub event : Call coeMachine → Told → Event coeMachine Told
@@ -17,8 +17,8 @@ callsOf seat order frame reply buffer =
     enter seat order ∷ send seat frame ∷ receive seat (reply, buffer) ∷ leave seat ∷ []
 
 -- the answers and the lent buffers that the client saw are those of the stand's run from a fresh desk
-abbrev pub Run : ℕ → Order → List ℕ → List ℕ → List ℕ → Seen → List ℕ → List ℕ → Type 0
-Run seat order frame reply buffer r frame′ buffer′ =
+abbrev pub RunSeen : ℕ → Order → List ℕ → List ℕ → List ℕ → Seen → List ℕ → List ℕ → Type 0
+RunSeen seat order frame reply buffer r frame′ buffer′ =
     trace deskStand (deskStand .fresh first) (callsOf seat order frame reply buffer)
     ≡ event (enter seat order) (r .entered, [])
     ∷ event (send seat frame) (r .sent, frame′)

@@ -1,4 +1,4 @@
--- What is told of a reply: the number with its values, and the bytes of the reply that are its chunk. Document 01, "Numbers the
+-- What is finding of a reply: the number with its values, and the bytes of the reply that are its chunk. Document 01, "Numbers the
 -- desk gives back". Assumes nothing.
 use mathlib.Core.List.{List, []}
 use Prim.Native.Nat.{ℕ}
@@ -7,35 +7,35 @@ use Rattle.judge.specs.Storage.{taken}
 use Rattle.judge.specs.declared.Answer.{Answer}
 use Rattle.judge.specs.declared.Verdict.{Verdict}
 
-abbrev pub Told : Type 0
-Told = Answer × List ℕ
+abbrev pub Finding : Type 0
+Finding = Answer × List ℕ
 
-abbrev pub told : Verdict → List ℕ → Told
-told v s = (answerOf v, taken v s)
+abbrev pub finding : Verdict → List ℕ → Finding
+finding v s = (answerOf v, taken v s)
 
 -- a number that has no values
 abbrev pub number : ℕ → Answer
 number x = record { number = x; sub = 0; index = 0; code = 0; length = 0 }
 
 -- "20 .. buffers unchanged by this call, also for all 2x"
-abbrev pub refuse : ℕ → Told
+abbrev pub refuse : ℕ → Finding
 refuse x = (number x, [])
 
 -- "emergency: code, register"
-abbrev pub emergency : ℕ → ℕ → Told
+abbrev pub emergency : ℕ → ℕ → Finding
 emergency code register = (record { number = 0x21; sub = register; index = 0; code = code; length = 0 }, [])
 
 -- "aborted: code, index, sub-index"
-abbrev pub aborted : ℕ → ℕ → ℕ → Told
+abbrev pub aborted : ℕ → ℕ → ℕ → Finding
 aborted code i b = (record { number = 0x22; sub = b; index = i; code = code; length = 0 }, [])
 
 -- "done, payload length P"
-abbrev pub done : ℕ → List ℕ → Told
+abbrev pub done : ℕ → List ℕ → Finding
 done p chunk = (record { number = 0x00; sub = 0; index = 0; code = 0; length = p }, chunk)
 
 -- "01, 02 request due, reply due .. chunk stored, if any"
-abbrev pub thenRequest : List ℕ → Told
+abbrev pub thenRequest : List ℕ → Finding
 thenRequest chunk = (number 0x01, chunk)
 
-abbrev pub thenReply : List ℕ → Told
+abbrev pub thenReply : List ℕ → Finding
 thenReply chunk = (number 0x02, chunk)
