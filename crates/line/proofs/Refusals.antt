@@ -62,20 +62,20 @@ module _ (M : Machine) (d : Desk M) where
 
     module _ (f : Transfer → Judged) (ts : Transfer → List Test) (h : (t : Transfer) → told (f t) ≡ firstOf (ts t)) where
       headed-tested : (l : Line Transfer) → told (andThen (headed s l) f) ≡ firstOf ((not (leads s l), 0x13) ∷ ofHead l ts)
-      unfolding settled refusalOf andThen headed leads ofHead
+      unfolding settled refusalOf andThen headed firstOf leads ofHead
       headed-tested [] = refl
       headed-tested (q ∷ l) = by (eqb s (q .0)) (λ y. rw y (h (q .1))) (λ n. rw n)
 
       head-tested : (l : Line Transfer)
           → told (andThen (head s l) f) ≡ firstOf ((noSeat s, 0x10) ∷ (not (seated s l), 0x12) ∷ (not (leads s l), 0x13) ∷ ofHead l ts)
-      unfolding head
+      unfolding head firstOf
       head-tested l = then-tested f (noSeat s) 0x10 _ _ (then-tested f (not (seated s l)) 0x12 _ _ (headed-tested l))
 
 module _ (M : Machine) (N : Numbered M) where
   open Machine M using (Transfer, begin, sendDue, sends, receives)
 
   pub refusal-order : (d : Desk M) → RefusesInOrder M d (step M d)
-  unfolding step judge tests settled refusalOf
+  unfolding step judge tests firstOf settled refusalOf
   refusal-order d (enter s e) =
       tested M d (noSeat s) 0x10 _ _ (tested M d (seated s (d .line)) 0x11 _ _
       (machine-tested M d _ 0x15 (begin e) (N .at-entry e) (λ t. refl)))
@@ -97,6 +97,7 @@ module _ (M : Machine) (N : Numbered M) where
   Listed = Each (λ t. within 0x10 0x16 (t .1) ≡ true)
 
   first-listed : (ts : List Test) (n : ℕ) → Listed ts → firstOf ts ≡ some n → within 0x10 0x16 n ≡ true
+  unfolding firstOf
   first-listed [] n h e = absurd (Option·none-ne-some n e)
   first-listed (t ∷ ts) n h e =
       by (t .0)

@@ -87,11 +87,11 @@ counted-by w standing.nothing h = absurd (false≢true h)
 
 module _ (o : Order) (s : ℕ) (w : Standing) where
   abbrev Stepped : Call coeMachine → Desk′ × Outcome coeMachine → Type 0
-  Stepped k r = standing.Gives o w k (says k (r .1)) × Alone o s (moved o w k) (r .0)
+  Stepped k r = standing.GivesAt o w k (says k (r .1)) × Alone o s (moved o w k) (r .0)
 
   asks-so : (b : List ℕ) (t : Transfer) (S : Stands o w t) (r : List ℕ × Transfer) → requestDue t ≡ true → sendsWith t (w .counter) b ≡ accept r
       → Stepped (send s b) (at coeMachine ((s, r .1) ∷ []) (passAt (following (w .counter))), sent (r .0))
-  unfolding standing.Gives moved answerFor lentAfter
+  unfolding standing.GivesAt moved answerFor lentAfter
   asks-so b t S r e f =
       let h = agree.asks S e in
       let F = sends-is t (w .counter) b r f in
@@ -103,7 +103,7 @@ module _ (o : Order) (s : ℕ) (w : Standing) where
 
   hears-so : (l : Lends) (t : Transfer) (S : Stands o w t) (r : Told × Option Transfer) → requestDue t ≡ false → receivesWith t l ≡ accept r
       → Stepped (receive s l) (at coeMachine (place s (r .1)) (passAt (w .counter)), received (r .0))
-  unfolding standing.Gives moved answerFor lentAfter place
+  unfolding standing.GivesAt moved answerFor lentAfter place
   hears-so l t S r e f =
       let h = agree.hears S e in
       let v = verdict-is S l h in
@@ -122,7 +122,7 @@ module _ (o : Order) (s : ℕ) (w : Standing) where
 
   leaves : (s₀ : ℕ) (l : Line Transfer) (p : Pass) (t : Transfer) (S : Stands o w t) → eqb s s₀ ≡ true → l ≡ (s, t) ∷ []
       → Stepped (leave s₀) (at coeMachine (vacate s₀ l) p, left)
-  unfolding standing.Gives moved answerFor lentAfter lentBy vacate
+  unfolding standing.GivesAt moved answerFor lentAfter lentBy vacate
   leaves s₀ l p t S h e = (
     (S .live, refl),
     ended (ap (vacate s₀) e ∙ rw (eq-eqb s₀ s (sym (eqb-true s s₀ h)))),

@@ -99,7 +99,7 @@ module _ (s : List ℕ) where
     reply-told : ((t : MailboxType) (v : CoeService) (k : CoeCommand)
         → Tells s (sdoBy s f (ListedType.Listed t) (ListedService.Listed v) (ListedCommand.Listed k)) (firstOf kind))
         → Tells s (replyTo i b s f) (firstOf (sdo s ++ addressed i b s ++ kind))
-    unfolding replyTo wrongAddress wrongType answerOf
+    unfolding firstOf replyTo wrongAddress wrongType answerOf
     reply-told p =
         rw (sdo-read s _)
         (decoded s (specifier-look (the specifier s)) (sdoBy s _) (λ b c. refl) (λ t c. refl) (λ t v. refl) λ t v k et ev ek.
@@ -108,12 +108,12 @@ module _ (s : List ℕ) where
         (any-of s (not (eqb (the mailboxType s) 3)) (not (eqb (the index s) i)) (not (eqb (the subIndex s) b)) _ _ (p t v k))))
 
   download-told : (i b : ℕ) → Tells s (judgeDownload i b s) (firstOf (sdo s ++ addressed i b s ++ download s))
-  unfolding judgeDownload downloadOf answerOf
+  unfolding firstOf judgeDownload downloadOf answerOf
   download-told i b = reply-told i b _ (download s) λ t v k. line s (under 16 s) _ _ refl
 
   upload-told : (i b n : ℕ)
       → Tells s (judgeUpload i b n s) (firstOf (sdo s ++ addressed i b s ++ (expeditedUpload s ++ otherUpload n s)))
-  unfolding judgeUpload uploadOf expeditedOf normalOf wholeOf answerOf
+  unfolding firstOf judgeUpload uploadOf expeditedOf normalOf wholeOf answerOf
   upload-told i b n =
       let p = 4 - the size s in
       let d = the lengthField s - 10 in
@@ -143,7 +143,7 @@ module _ (s : List ℕ) where
   last-line place len sum false = refl
 
   segment-told : (earlier n : ℕ) → Tells s (judgeSegment earlier n s) (firstOf (sdo s ++ segment earlier n s))
-  unfolding judgeSegment wrongType segmentOf answerOf
+  unfolding firstOf judgeSegment wrongType segmentOf answerOf
   segment-told earlier n =
       rw (segment-read s _)
       (decoded s (specifier-look (the specifier s)) (segmentBy s _) (λ b c. refl) (λ t c. refl) (λ t v. refl) λ t v k et ev ek.
@@ -165,7 +165,7 @@ module _ (s : List ℕ) where
 
   information-told : (begun : Bool) (earlier n : ℕ)
       → Tells s (judgeList begun earlier n s) (firstOf (information begun earlier n s))
-  unfolding judgeList fragmentOf answerOf
+  unfolding firstOf judgeList fragmentOf answerOf
   information-told begun earlier n =
       let k = the lengthField s - 8 in
       rw (information-read s _)
@@ -177,7 +177,7 @@ module _ (s : List ℕ) where
       (chunk-lines (chunkPlace begun) k earlier n _ (incomplete-line (chunkPlace begun) k (earlier + k) (isSet incomplete s))))))
 
 pub judged-by-rules : JudgedByRules
-unfolding judgeReply rules
+unfolding firstOf judgeReply rules
 judged-by-rules (reply.Download i b) earlier n s = download-told s i b
 judged-by-rules (reply.Upload i b) earlier n s = upload-told s i b n
 judged-by-rules reply.Segment earlier n s = segment-told s earlier n

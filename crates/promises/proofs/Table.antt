@@ -51,12 +51,12 @@ frame-16 t c b = go (fits (length b)) _
     go false r = refl
 
 reply-16 : (t : Transfer) (l : Lends)
-    → firstOf ((isRefused (receivesWith t l), 0x16) ∷ []) ≡ firstOf ((ltb 1486 (length (l .0)), 0x16) ∷ (ltb 131070 (length (l .1)), 0x16) ∷ [])
-unfolding receivesWith
+    → firstOf {A = ℕ} ((isRefused (receivesWith t l), 0x16) ∷ []) ≡ firstOf {A = ℕ} ((ltb 1486 (length (l .0)), 0x16) ∷ (ltb 131070 (length (l .1)), 0x16) ∷ [])
+unfolding receivesWith firstOf
 reply-16 t l = go (ltb 1486 (length (l .0))) (ltb 131070 (length (l .1))) _
   where
     go : (a b : Bool) (r : Told × Option Transfer)
-        → firstOf ((isRefused (pick a (refuse 0x16) (pick b (refuse 0x16) (accept r))), 0x16) ∷ []) ≡ firstOf ((a, 0x16) ∷ (b, 0x16) ∷ [])
+        → firstOf {A = ℕ} ((isRefused (pick a (refuse 0x16) (pick b (refuse 0x16) (accept r))), 0x16) ∷ []) ≡ firstOf {A = ℕ} ((a, 0x16) ∷ (b, 0x16) ∷ [])
     go true b r = refl
     go false true r = refl
     go false false r = refl
@@ -67,15 +67,16 @@ first-head [] f g h = refl
 first-head (q ∷ l) f g h = h (q .1)
 
 then : (t : Test) (a b : List Test) → firstOf a ≡ firstOf b → firstOf (t ∷ a) ≡ firstOf (t ∷ b)
-then t a b h = ap (λ (x : Option ℕ). pick (t .1) (some (t .0)) x) h
+unfolding firstOf
+then t a b h = ap (λ (x : Option ℕ). pick (t .0) (some (t .1)) x) h
 
 same-tests : (q : Queue) (k : Call coeMachine) → firstOf (tests coeMachine q k) ≡ firstOf (conditions q k)
 unfolding tests conditions
 same-tests q (enter s o) =
-    then _ _ _ (then _ _ _ (ap (λ (b : Bool). firstOf ((b, 0x15) ∷ [])) (entry-15 o)))
+    then _ _ _ (then _ _ _ (ap (λ (b : Bool). firstOf {A = ℕ} ((b, 0x15) ∷ [])) (entry-15 o)))
 same-tests q (send s b) =
     then _ _ _ (then _ _ _ (then _ _ _ (first-head (q .line) _ _
-    (λ t. then _ _ _ (ap (λ (x : Bool). firstOf ((x, 0x16) ∷ [])) (frame-16 t (q .pass .counter) b))))))
+    (λ t. then _ _ _ (ap (λ (x : Bool). firstOf {A = ℕ} ((x, 0x16) ∷ [])) (frame-16 t (q .pass .counter) b))))))
 same-tests q (receive s l) =
     then _ _ _ (then _ _ _ (then _ _ _ (first-head (q .line) _ _ (λ t. then _ _ _ (reply-16 t l)))))
 same-tests q (leave s) = refl

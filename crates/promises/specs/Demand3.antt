@@ -39,7 +39,7 @@ RunsExist = (d : Desk) (ks : List Called) → calls (trace deskStand d ks) ≡ k
 
 -- of any desk: each of its single runs, where it is one transfer's, follows demand 2's rules
 abbrev pub SinglesFollow : Stand coeMachine Told → Type 0
-SinglesFollow S = line.Follows S (λ t. OneTransfer isAnswered t → Follows t)
+SinglesFollow S = line.HoldsAlone S (λ t. OneTransfer isAnswered t → Follows t)
 
 -- then so does every transfer that it serves beside others
 abbrev pub ServedTruly : Stand coeMachine Told → Type 0
