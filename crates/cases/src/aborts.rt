@@ -1,5 +1,4 @@
 // The abort codes: the number of the code that a number gives, and its name.
-use crate::show;
 use mailbox::abort_code::CoeAbortCode;
 
 fn name(code: CoeAbortCode) {

@@ -3,13 +3,12 @@
 mod aborts;
 mod replies;
 mod requests;
-mod show;
 mod values;
 
+use bytes::scan::find;
 use libc::STDIN_FILENO;
 use order_text::Decoded;
 ghost use mathlib.Core.Path.{_≡_};
-ghost use Prim.Native.Nat.{_≤_};
 ghost use lib.ListN.{length};
 
 const FILL: u8 = 0xa5;
@@ -26,18 +25,21 @@ fn case_space() -> [u8; 2048]
     [0; 2048]
 }
 
+// What a buffer holds before a case writes to it.
+pub(crate) fn fill(buffer: &mut [u8]) {
+    let mut i = 0;
+    while i < buffer.len() {
+        buffer[i] = FILL;
+        i += 1;
+    }
+}
+
 fn dispatch(case: &[u8], buffer: &mut [u8]) {
     match wire::byte(case, 0) {
-        0x01 => requests::upload(case, buffer),
-        0x02 => requests::download(case, buffer),
-        0x03 => requests::segment(case, buffer),
-        0x04 => requests::list(case, buffer),
+        0x01..=0x04 => requests::frame(case, buffer),
         0x05 => aborts::abort_code(case),
         0x06 => requests::response(case),
-        0x10 => replies::upload(case, buffer),
-        0x11 => replies::download(case, buffer),
-        0x12 => replies::segment(case, buffer),
-        0x13 => replies::list(case, buffer),
+        0x10..=0x13 => replies::reply(case, buffer),
         0x20 => values::typed(case),
         0x21 => values::item(case),
         0x22 => values::quantities(case),
@@ -55,7 +57,7 @@ fn run_line(line: &[u8], space: &mut [u8], buffer: &mut [u8]) {
     match order_text::decode(line, space) {
         Decoded::Bytes(n) => {
             if n <= space.len() {
-                dispatch(&space[..n], buffer);
+                dispatch(&space[0..n], buffer);
                 show::words(b"\n");
             }
         }
@@ -63,21 +65,10 @@ fn run_line(line: &[u8], space: &mut [u8], buffer: &mut [u8]) {
     }
 }
 
-fn line_end(text: &[u8], at: usize) -> usize
-    requires { ⌜ at ≤ length (now text) ⌝ }
-    ensures { λ r. ⌜ (at ≤ r) × (r ≤ length (now (text .entry))) ⌝ }
-{
-    let mut i = at;
-    while i < text.len() && text[i] != b'\n' {
-        i += 1;
-    }
-    i
-}
-
 fn run(text: &[u8], space: &mut [u8], buffer: &mut [u8]) {
     let mut at = 0;
     while at < text.len() {
-        let end = line_end(text, at);
+        let end = find(text, at, text.len(), b'\n');
         run_line(&text[at..end], space, buffer);
         at = end + 1;
     }

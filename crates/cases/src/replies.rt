@@ -1,73 +1,53 @@
 // The judge: the answer, the data buffer's first bytes and the check of all of it, and the byte behind it.
-use crate::FILL;
-use crate::show;
-use judge::Answer;
+use crate::fill;
 use judge::Verdict;
+ghost use Prim.Native.Nat.{_≤_};
 
-fn answered(answer: Answer) {
-    show::number(answer.number as u64, 2);
-    show::next(answer.sub as u64, 2);
-    show::next(answer.index as u64, 4);
-    show::next(answer.code as u64, 8);
-    show::next(answer.length as u64, 8);
-}
-
-fn left(data: &[u8]) {
-    show::words(b" ");
-    show::bytes(data, 64);
-    show::next(show::check(data) as u64, 8);
-}
-
-fn judged(verdict: Verdict, reply: &[u8], earlier: usize, n: usize, buffer: &mut [u8]) {
-    if n <= buffer.len() {
-        show::fill(buffer, FILL);
-        judge::store(verdict, reply, &mut buffer[..n], earlier);
-        answered(judge::answer_of(verdict));
-        left(&buffer[..n]);
-        show::next(wire::byte(buffer, n) as u64, 2);
+// How many bytes of a case stand in front of the reply: the last four are the data buffer's length.
+fn head(kind: u8) -> usize
+    ensures { λ r. ⌜ (8 ≤ r) × (r ≤ 10) ⌝ }
+{
+    match kind {
+        0x12 => 9,
+        0x13 => 10,
+        _ => 8,
     }
 }
 
-pub(crate) fn upload(case: &[u8], buffer: &mut [u8]) {
-    if 8 <= case.len() {
-        let n = wire::long_at(case, 4);
-        let verdict = judge::judge_upload(
-            &case[8..],
-            wire::word_at(case, 1),
-            wire::byte(case, 3),
-            n,
-        );
-        judged(verdict, &case[8..], 0, n as usize, buffer);
+// What earlier replies stored, of a segment and of a list.
+fn earlier(case: &[u8]) -> u32 {
+    match wire::byte(case, 0) {
+        0x12 => wire::long_at(case, 1),
+        0x13 => wire::long_at(case, 2),
+        _ => 0,
     }
 }
 
-pub(crate) fn download(case: &[u8], buffer: &mut [u8]) {
-    if 8 <= case.len() {
-        let n = wire::long_at(case, 4);
-        let verdict = judge::judge_download(
-            &case[8..],
-            wire::word_at(case, 1),
-            wire::byte(case, 3),
-        );
-        judged(verdict, &case[8..], 0, n as usize, buffer);
+fn verdict(case: &[u8], reply: &[u8], n: u32) -> Verdict {
+    match wire::byte(case, 0) {
+        0x10 => judge::judge_upload(reply, wire::word_at(case, 1), wire::byte(case, 3), n),
+        0x11 => judge::judge_download(reply, wire::word_at(case, 1), wire::byte(case, 3)),
+        0x12 => judge::judge_segment(reply, earlier(case), n),
+        _ => judge::judge_list(reply, wire::byte(case, 1) == 1, earlier(case), n),
     }
 }
 
-pub(crate) fn segment(case: &[u8], buffer: &mut [u8]) {
-    if 9 <= case.len() {
-        let earlier = wire::long_at(case, 1);
-        let n = wire::long_at(case, 5);
-        let verdict = judge::judge_segment(&case[9..], earlier, n);
-        judged(verdict, &case[9..], earlier as usize, n as usize, buffer);
-    }
+fn judged(case: &[u8], reply: &[u8], n: u32, data: &mut [u8]) {
+    let verdict = verdict(case, reply, n);
+    judge::store(verdict, reply, data, earlier(case) as usize);
+    show::answer(judge::answer_of(verdict));
+    show::looked(data, 64, 8);
 }
 
-pub(crate) fn list(case: &[u8], buffer: &mut [u8]) {
-    if 10 <= case.len() {
-        let begun = wire::byte(case, 1) == 1;
-        let earlier = wire::long_at(case, 2);
-        let n = wire::long_at(case, 6);
-        let verdict = judge::judge_list(&case[10..], begun, earlier, n);
-        judged(verdict, &case[10..], earlier as usize, n as usize, buffer);
+pub(crate) fn reply(case: &[u8], buffer: &mut [u8]) {
+    let head = head(wire::byte(case, 0));
+    let n = wire::long_at(case, head - 4);
+    let size = n as usize;
+    if head <= case.len() {
+        if size <= buffer.len() {
+            fill(buffer);
+            judged(case, &case[head..], n, &mut buffer[0..size]);
+            show::next(wire::byte(buffer, size) as u64, 2);
+        }
     }
 }

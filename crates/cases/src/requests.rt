@@ -1,6 +1,5 @@
 // The writers: the number, the first sixteen bytes behind the buffer's start, its last byte and the byte behind it.
-use crate::FILL;
-use crate::show;
+use crate::fill;
 use mailbox::sub_index::SubIndex;
 use services::Request;
 use services::Wrote;
@@ -8,7 +7,7 @@ use services::Wrote;
 fn written(wrote: Wrote, size: usize, buffer: &[u8]) {
     show::number(services::number_of(wrote) as u64, 2);
     show::words(b" ");
-    show::bytes(buffer, 16);
+    show::first(buffer, 16);
     if size == 0 {
         show::next(0, 2);
     } else {
@@ -17,61 +16,49 @@ fn written(wrote: Wrote, size: usize, buffer: &[u8]) {
     show::next(wire::byte(buffer, size) as u64, 2);
 }
 
-pub(crate) fn upload(case: &[u8], buffer: &mut [u8]) {
-    let size = wire::word_at(case, 6) as usize;
-    if size <= buffer.len() {
-        show::fill(buffer, FILL);
-        let wrote = services::checked::upload_frame(
+fn download(case: &[u8], frame: &mut [u8]) -> Wrote {
+    if case.len() < 8 {
+        return Wrote::Refused(0);
+    }
+    services::checked::download_frame(
+        wire::byte(case, 1),
+        wire::word_at(case, 2),
+        wire::byte(case, 4),
+        wire::byte(case, 5),
+        &case[8..],
+        frame,
+    )
+}
+
+fn wrote(case: &[u8], frame: &mut [u8]) -> Wrote {
+    match wire::byte(case, 0) {
+        0x01 => services::checked::upload_frame(
             wire::byte(case, 1),
             wire::word_at(case, 2),
             wire::byte(case, 4),
             wire::byte(case, 5),
-            &mut buffer[..size],
-        );
-        written(wrote, size, buffer);
+            frame,
+        ),
+        0x02 => download(case, frame),
+        0x03 => services::checked::segment_frame(wire::byte(case, 1), wire::byte(case, 2), frame),
+        _ => services::checked::list_frame(wire::byte(case, 1), wire::word_at(case, 2), frame),
     }
 }
 
-pub(crate) fn download(case: &[u8], buffer: &mut [u8]) {
-    let size = wire::word_at(case, 6) as usize;
-    if size <= buffer.len() {
-        if 8 <= case.len() {
-            show::fill(buffer, FILL);
-            let wrote = services::checked::download_frame(
-                wire::byte(case, 1),
-                wire::word_at(case, 2),
-                wire::byte(case, 4),
-                wire::byte(case, 5),
-                &case[8..],
-                &mut buffer[..size],
-            );
-            written(wrote, size, buffer);
-        }
+// Where a case has the frame's size.
+fn size_at(kind: u8) -> usize {
+    match kind {
+        0x03 => 3,
+        0x04 => 4,
+        _ => 6,
     }
 }
 
-pub(crate) fn segment(case: &[u8], buffer: &mut [u8]) {
-    let size = wire::word_at(case, 3) as usize;
+pub(crate) fn frame(case: &[u8], buffer: &mut [u8]) {
+    let size = wire::word_at(case, size_at(wire::byte(case, 0))) as usize;
     if size <= buffer.len() {
-        show::fill(buffer, FILL);
-        let wrote = services::checked::segment_frame(
-            wire::byte(case, 1),
-            wire::byte(case, 2),
-            &mut buffer[..size],
-        );
-        written(wrote, size, buffer);
-    }
-}
-
-pub(crate) fn list(case: &[u8], buffer: &mut [u8]) {
-    let size = wire::word_at(case, 4) as usize;
-    if size <= buffer.len() {
-        show::fill(buffer, FILL);
-        let wrote = services::checked::list_frame(
-            wire::byte(case, 1),
-            wire::word_at(case, 2),
-            &mut buffer[..size],
-        );
+        fill(buffer);
+        let wrote = wrote(case, &mut buffer[0..size]);
         written(wrote, size, buffer);
     }
 }

@@ -1,5 +1,4 @@
 // The reads of a finished payload.
-use crate::show;
 use reads::list::ItemRead;
 use reads::quantities::QuantitiesRead;
 use reads::typed::SignedRead;

@@ -1,24 +1,11 @@
 // Replays stored order files: their texts stand one after another on standard input, each followed by `=`, and what each prints is
 // followed by a line `=`. tools/cases/orders writes both files. A test program: its lines are compared.
+use bytes::scan::find;
 use libc::STDIN_FILENO;
 use libc::STDOUT_FILENO;
 use order_run::ROOM;
 use order_run::Run;
-ghost use Prim.Native.Nat.{_≤_};
-ghost use lib.ListN.{length};
 ghost use Rattle.order_run.specs.Feed.{Going};
-
-// Where the first `=` at or after `at` stands, or the length.
-fn mark(text: &[u8], at: usize) -> usize
-    requires { ⌜ at ≤ length (now text) ⌝ }
-    ensures { λ r. ⌜ (at ≤ r) × (r ≤ length (now (text .entry))) ⌝ }
-{
-    let mut i = at;
-    while i < text.len() && text[i] != b'=' {
-        i += 1;
-    }
-    i
-}
 
 // At a mark the order ends, and a new run begins. What the order left in the buffers stays there, and is never printed.
 fn settled(
@@ -52,7 +39,7 @@ fn orders(
     let mut run = first;
     let mut at = 0;
     while at < text.len() {
-        let end = mark(text, at);
+        let end = find(text, at, text.len(), b'=');
         run = order_io::fed(run, &text[at..end], frame, data, out);
         run = settled(run, end < text.len(), frame, data, out);
         at = end + 1;

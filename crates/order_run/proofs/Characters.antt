@@ -16,11 +16,11 @@ use Rattle.desk.specs.declared.Desk.{Desk}
 use Rattle.order_text.specs.Digits.{digitOf, byteOf}
 use Rattle.order_text.specs.Lines.{bytesOf}
 use Rattle.order_text.proofs.Digits.{byte-digits}
-use Rattle.order_text.proofs.Lines.{digit-at}
+use Rattle.order_text.proofs.Lines.{digit-at, byte-turn}
 use Rattle.order_run.specs.Turns.{failed, afterFrame, keptFrame}
 use Rattle.order_run.specs.Feed.{part, nothing, further, St, st, Did, behind, endSaid, endKept, ended, stopped, fails, putPart, put, afterChar, after, Begun, Whole, Starts}
 use Rattle.order_run.specs.declared.digits.Part.{Part}
-use Rattle.order_run.proofs.Parts.{fails-room, fails-not, fails-digit, put-first, put-second, pair-stored}
+use Rattle.order_run.proofs.Parts.{fails-room, fails-not, fails-digit, put-first, put-second}
 
 module _ (s : St) where
   pub end-whole : eqb (s .part .half) 16 ≡ true
@@ -148,7 +148,7 @@ module _ (d : Desk) (ph : ℕ) (k : List ℕ) (n : ph ≡ 2 → ⊥) where
         let g : j + 1 ≡ suc j = omega arith in
         ap (after (stand j)) (two-at j h)
         ∙ pair-step (at + j) a b (paste f at (bytesOf t) j) (drop (2 * suc j) t) (omega arith) (good (2 * j) (omega arith)) (good (2 * j + 1) (omega arith))
-        ∙ ap (λ (z : List ℕ). after (st d ph (part (at + j + 1) 16) z k) (drop (2 * suc j) t)) (pair-stored t f at j (omega arith) (omega arith))
+        ∙ ap (λ (z : List ℕ). after (st d ph (part (at + j + 1) 16) z k) (drop (2 * suc j) t)) (byte-turn f t at j (at + j) refl (omega arith) (omega arith))
         ∙ rw (e, g)
 
     steps : (j : ℕ) → j ≤ r → after (st d ph (part at 16) f k) t ≡ after (stand j) (drop (2 * j) t)

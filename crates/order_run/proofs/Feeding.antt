@@ -106,51 +106,43 @@ module _ {t : List ℕ} {s₁ : St} {o₁ : List ℕ} {d : Desk} {ph : ℕ} {p :
 
 module _ {t k : List ℕ} {d₁ : Desk} {ph₁ : ℕ} {p₁ : Part} {f₁ o₁ : List ℕ} {n₁ i₁ : ℕ} {d : Desk} {ph : ℕ} {p : Part} {f o : List ℕ} {n i : ℕ}
     (D : Digits t k d₁ ph₁ p₁ f₁ o₁ n₁ i₁ d ph p f o n i) where
+  -- some characters further on in the line
+  digits-on : {p₂ : Part} {f₂ : List ℕ} {j : ℕ} → i ≤ j → j ≤ length t → Begun p₂ → length f₂ ≡ 1486
+      → after (st d ph p f k) (drop i t) ≡ after (st d ph p₂ f₂ k) (drop j t)
+      → Digits t k d₁ ph₁ p₁ f₁ o₁ n₁ i₁ d ph p₂ f₂ o n j
+  digits-on m w b l e =
+      record {
+        within = w;
+        onward = omega (arith, D .onward);
+        good = D .good;
+        begun = b;
+        going = D .going;
+        long = l;
+        desk = D .desk;
+        phase = D .phase;
+        out = D .out;
+        printed = D .printed;
+        room = D .room;
+        goes = D .goes ∙ e;
+      }
+
   pub digits-put : {p₂ : Part} {f₂ : List ℕ} → i < length t → (getD t i 0 ≡ 10 → ⊥) → fails p (getD t i 0) ≡ false
       → p₂ ≡ putPart p (digitOf (getD t i 0)) → f₂ ≡ putFrame p (digitOf (getD t i 0)) f → length f₂ ≡ 1486
       → Digits t k d₁ ph₁ p₁ f₁ o₁ n₁ i₁ d ph p₂ f₂ o n (i + 1)
   digits-put {p₂} {f₂} h z e a b l =
       let c = getD t i 0 in
-      record {
-        within = omega arith;
-        onward = omega (arith, D .onward);
-        good = D .good;
-        begun = rw a (begun-put p c f (D .begun) e);
-        going = D .going;
-        long = l;
-        desk = D .desk;
-        phase = D .phase;
-        out = D .out;
-        printed = D .printed;
-        room = D .room;
-        goes =
-            D .goes
-            ∙ ap (after (st d ph p f k)) (at t i h)
-            ∙ after-put (st d ph p f k) (drop (i + 1) t) (D .going) c z e
-            ∙ ap (λ (x : St). after x (drop (i + 1) t)) (λ j. st d ph (sym a j) (sym b j) k);
-      }
+      digits-on (omega arith) (omega arith) (rw a (begun-put p c f (D .begun) e)) l
+      (ap (after (st d ph p f k)) (at t i h)
+      ∙ after-put (st d ph p f k) (drop (i + 1) t) (D .going) c z e
+      ∙ ap (λ (x : St). after x (drop (i + 1) t)) (λ j. st d ph (sym a j) (sym b j) k))
 
   pub digits-whole : {p₂ : Part} {f₂ : List ℕ} {m : ℕ} → Whole (drop i t) (p .count) f m f₂ → (0 < m → p .half ≡ 16) → length f₂ ≡ 1486
       → p₂ ≡ further p m → Digits t k d₁ ph₁ p₁ f₁ o₁ n₁ i₁ d ph p₂ f₂ o n (i + 2 * m)
   digits-whole {p₂} {f₂} {m} w g l r =
-      record {
-        within = omega (arith, w .there, length-drop i t, D .within);
-        onward = omega (arith, D .onward);
-        good = D .good;
-        begun = rw r (begun-further p m (D .begun) (w .room) g);
-        going = D .going;
-        long = l;
-        desk = D .desk;
-        phase = D .phase;
-        out = D .out;
-        printed = D .printed;
-        room = D .room;
-        goes =
-            D .goes
-            ∙ after-whole d ph k (D .going) p f (drop i t) m f₂ (D .long) w g
-            ∙ ap (λ (x : Part). after (st d ph x f₂ k) (drop (2 * m) (drop i t))) (sym r)
-            ∙ ap (after (st d ph p₂ f₂ k)) (drop-drop (2 * m) i t);
-      }
+      digits-on (omega arith) (omega (arith, w .there, length-drop i t, D .within)) (rw r (begun-further p m (D .begun) (w .room) g)) l
+      (after-whole d ph k (D .going) p f (drop i t) m f₂ (D .long) w g
+      ∙ ap (λ (x : Part). after (st d ph x f₂ k) (drop (2 * m) (drop i t))) (sym r)
+      ∙ ap (after (st d ph p₂ f₂ k)) (drop-drop (2 * m) i t))
 
 module _ {t : List ℕ} {s₁ : St} {o₁ : List ℕ} {s : St} {o : List ℕ} {n i : ℕ} (L : Lines t s₁ o₁ s o n i) where
   -- what a line prints, behind what is printed

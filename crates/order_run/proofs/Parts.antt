@@ -6,14 +6,13 @@ use mathlib.Core.List.{List}
 use native.Mathlib.Omega.{arith}
 use lib.Dec.{ltb, leb}
 use lib.ListN.{length, getD, set, take, length-take}
-use lib.Seq.{paste, paste-zero, getD-take}
+use lib.Seq.{paste-zero, getD-take}
 use borrow.Author.Tests.{eq-eqb, ne-eqb, lt-ltb, le-ltb, ltb-true, ltb-false}
 use Rattle.wire.proofs.Cases.{by}
-use Rattle.wire.proofs.Store.{paste-turn}
 use Rattle.order_text.specs.Digits.{digitOf, byteOf}
 use Rattle.order_text.specs.Lines.{hasBad, bytesOf}
 use Rattle.order_text.proofs.Digits.{byte-high, byte-low}
-use Rattle.order_text.proofs.Lines.{digit-at, byte-at, length-bytes}
+use Rattle.order_text.proofs.Lines.{digit-at, byte-turn}
 use Rattle.order_text.proofs.Refused.{none-bad}
 use Rattle.order_run.specs.Feed.{part, fails, putPart, putFrame, Whole}
 use Rattle.order_run.specs.declared.digits.Part.{Part}
@@ -50,27 +49,33 @@ both-digits a b h =
     (λ g. absurd (omega (arith, byte-low a b (ltb-false 15 (digitOf a) e) (ltb-true 15 (digitOf b) g))))
     (λ g. (ltb-false 15 (digitOf a) e, ltb-false 15 (digitOf b) g)))
 
-module _ (t f : List ℕ) (at k : ℕ) where
-  pub pair-digits : 2 * k + 1 < length t → byteOf (getD t (2 * k) 0) (getD t (2 * k + 1) 0) ≤ 255 → hasBad (take (2 * k) t) ≡ false
-      → hasBad (take (2 * (k + 1)) t) ≡ false
-  pair-digits h b g =
-      none-bad (take (2 * (k + 1)) t) λ i l.
-      let n : i < 2 * (k + 1) = omega (arith, length-take (2 * (k + 1)) t) in
-      let e : getD (take (2 * (k + 1)) t) i 0 ≡ getD t i 0 = getD-take (2 * (k + 1)) t i 0 n in
-      let two = both-digits (getD t (2 * k) 0) (getD t (2 * k + 1) 0) b in
-      rw e
-      (by (ltb i (2 * k))
-      (λ q. let m : i < 2 * k = ltb-true i (2 * k) q in
-      (rw (getD-take (2 * k) t i 0 m) at (digit-at (take (2 * k) t) i g (omega (arith, length-take (2 * k) t)))))
-      (λ q. by (ltb (2 * k) i)
-      (λ r. let m : i ≡ 2 * k + 1 = omega (arith, ltb-true (2 * k) i r) in rw m (two .1))
-      (λ r. let m : i ≡ 2 * k = omega (arith, ltb-false i (2 * k) q, ltb-false (2 * k) i r) in rw m (two .0))))
+pair-digits : (t : List ℕ) (k : ℕ) → 2 * k + 1 < length t → byteOf (getD t (2 * k) 0) (getD t (2 * k + 1) 0) ≤ 255 → hasBad (take (2 * k) t) ≡ false
+    → hasBad (take (2 * (k + 1)) t) ≡ false
+pair-digits t k h b g =
+    none-bad (take (2 * (k + 1)) t) λ i l.
+    let n : i < 2 * (k + 1) = omega (arith, length-take (2 * (k + 1)) t) in
+    let e : getD (take (2 * (k + 1)) t) i 0 ≡ getD t i 0 = getD-take (2 * (k + 1)) t i 0 n in
+    let two = both-digits (getD t (2 * k) 0) (getD t (2 * k + 1) 0) b in
+    rw e
+    (by (ltb i (2 * k))
+    (λ q. let m : i < 2 * k = ltb-true i (2 * k) q in
+    (rw (getD-take (2 * k) t i 0 m) at (digit-at (take (2 * k) t) i g (omega (arith, length-take (2 * k) t)))))
+    (λ q. by (ltb (2 * k) i)
+    (λ r. let m : i ≡ 2 * k + 1 = omega (arith, ltb-true (2 * k) i r) in rw m (two .1))
+    (λ r. let m : i ≡ 2 * k = omega (arith, ltb-false i (2 * k) q, ltb-false (2 * k) i r) in rw m (two .0))))
 
-  pub pair-stored : at + k < length f → 2 * k + 1 < length t
-      → set (paste f at (bytesOf t) k) (at + k) (byteOf (getD t (2 * k) 0) (getD t (2 * k + 1) 0)) ≡ paste f at (bytesOf t) (k + 1)
-  pair-stored h l =
-      rw (← byte-at t k l) (paste-turn f at (bytesOf t) k (at + k) refl h (rw (length-bytes t) (omega arith)))
+module _ {t f : List ℕ} {at : ℕ} where
+  pub none-whole : at ≤ 1486 → Whole t at f 0 f
+  unfolding hasBad
+  none-whole h = record { there = omega arith; room = omega arith; digits = refl; stored = paste-zero f at (bytesOf t) }
 
-pub none-whole : (t f : List ℕ) (at : ℕ) → at ≤ 1486 → Whole t at f 0 f
-unfolding hasBad
-none-whole t f at h = record { there = omega arith; room = omega arith; digits = refl; stored = paste-zero f at (bytesOf t) }
+  -- one byte more, which two good digits make
+  pub pair-whole : {f′ : List ℕ} {k b : ℕ} → Whole t at f k f′ → b ≡ byteOf (getD t (2 * k) 0) (getD t (2 * k + 1) 0) → b ≤ 255 → 2 * k + 1 < length t
+      → at + k < 1486 → length f ≡ 1486 → Whole t at f (k + 1) (set f′ (at + k) b)
+  pair-whole {f′} {k} {b} w e h l r n =
+      record {
+        there = omega arith;
+        room = omega arith;
+        digits = pair-digits t k l (omega arith) (w .digits);
+        stored = rw (w .stored, e) (byte-turn f t at k (at + k) refl (omega arith) l);
+      }

@@ -76,8 +76,8 @@ byte-less s k e h =
     let low : digitOf (getD s (2 * k + 1) 0) ≤ 15 = digit-at s (2 * k + 1) e h in
     rw (byte-digits (getD s (2 * k) 0) (getD s (2 * k + 1) 0) high low) (omega arith)
 
--- a turn of the loop that stores the bytes
-pub byte-turn : (f s : List ℕ) (k : ℕ) → k < length f → 2 * k + 1 < length s
-    → set (paste f 0 (bytesOf s) k) k (byteOf (getD s (2 * k) 0) (getD s (2 * k + 1) 0)) ≡ paste f 0 (bytesOf s) (k + 1)
-byte-turn f s k h l =
-    rw (← byte-at s k l) (paste-turn f 0 (bytesOf s) k k (omega arith) h (rw (length-bytes s) (omega arith)))
+-- a turn of a loop that stores the bytes from a place on
+pub byte-turn : (f s : List ℕ) (at k j : ℕ) → j ≡ at + k → j < length f → 2 * k + 1 < length s
+    → set (paste f at (bytesOf s) k) j (byteOf (getD s (2 * k) 0) (getD s (2 * k + 1) 0)) ≡ paste f at (bytesOf s) (k + 1)
+byte-turn f s at k j e h l =
+    rw (← byte-at s k l) (paste-turn f at (bytesOf s) k j e h (rw (length-bytes s) (omega arith)))

@@ -53,12 +53,12 @@ text-take (suc m) (x ∷ s) =
 
 module _ (o s : List ℕ) (at count : ℕ) (e : count ≡ min ((length o - at) / 2) (length s)) where
   -- the text of the bytes that have room, as long as they are many
-  pub length-text-in : length (textIn (length o - at) s) ≡ 2 * count
+  length-text-in : length (textIn (length o - at) s) ≡ 2 * count
   unfolding textIn
   length-text-in = length-text (take ((length o - at) / 2) s) ∙ simp length-take (omega arith)
 
   -- and the characters of that many bytes are that text, laid over the buffer
-  pub text-laid : paste o at (hexText s) (2 * count) ≡ laid o at (textIn (length o - at) s)
+  text-laid : paste o at (hexText s) (2 * count) ≡ laid o at (textIn (length o - at) s)
   unfolding textIn
   text-laid =
       let m : ℕ = (length o - at) / 2 in
@@ -68,5 +68,11 @@ module _ (o s : List ℕ) (at count : ℕ) (e : count ≡ min ((length o - at) /
       ∙ ap (λ (t : List ℕ). paste o at t (2 * count)) (sym (text-take m s))
       ∙ ap (paste o at (hexText (take m s))) k
 
-  pub text-none : count ≡ 0 → o ≡ laid o at (textIn (length o - at) s)
-  text-none z = paste-zero o at (hexText s) ∙ ap (λ (k : ℕ). paste o at (hexText s) (2 * k)) (sym z) ∙ text-laid
+  -- what `encode_at` answers and leaves, where there is no room, and where the text is written
+  pub text-none : count ≡ 0 → (at ≡ at + length (textIn (length o - at) s)) × (o ≡ laid o at (textIn (length o - at) s))
+  text-none z =
+      (omega (arith, length-text-in), paste-zero o at (hexText s) ∙ ap (λ (k : ℕ). paste o at (hexText s) (2 * k)) (sym z) ∙ text-laid)
+
+  pub text-some : (o′ : List ℕ) → o′ ≡ paste o at (hexText s) (2 * count)
+      → (at + 2 * count ≡ at + length (textIn (length o - at) s)) × (o′ ≡ laid o at (textIn (length o - at) s))
+  text-some o′ w = (omega (arith, length-text-in), w ∙ text-laid)

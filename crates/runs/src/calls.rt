@@ -1,7 +1,6 @@
 // The calls: a byte that names the call, the seat, and the call's arguments; a lent buffer is a part of the memory, by its place
 // and its length, as far as the memory reaches.
 use crate::least;
-use crate::show;
 use desk::Called;
 use desk::Desk;
 use transfer::Order;
@@ -74,7 +73,7 @@ pub(crate) fn receive(desk: Desk, call: &[u8], memory: &mut [u8]) -> Desk
     let to = from + least(wire::long_at(call, 6) as usize, memory.len() - from);
     let reply = &call[least(10, call.len())..];
     let after = told(desk.receive(wire::byte(call, 1), reply, &mut memory[from..to]));
-    show::looked(&memory[from..to]);
+    show::looked(&memory[from..to], 32, 4);
     after
 }
 
@@ -87,5 +86,5 @@ pub(crate) fn lay(call: &[u8], memory: &mut [u8]) {
 // No call of the desk: the whole memory is looked at.
 pub(crate) fn look(memory: &[u8]) {
     show::words(b"memory");
-    show::looked(memory);
+    show::looked(memory, 32, 4);
 }

@@ -1,8 +1,8 @@
 // Replays stored call sequences of the desk: a line of standard input is a call, and one line is printed for it. What the lines
 // mean, and where they come from, is in tools/runs/make, which writes both files. A test program: its lines are compared.
 mod calls;
-mod show;
 
+use bytes::scan::find;
 use desk::Desk;
 use libc::STDIN_FILENO;
 use order_text::Decoded;
@@ -72,15 +72,11 @@ fn call_of(line: &[u8], space: &mut [u8]) -> usize
     }
 }
 
-fn line_end(text: &[u8], at: usize) -> usize
-    requires { ⌜ at ≤ length (now text) ⌝ }
-    ensures { λ r. ⌜ (at ≤ r) × (r ≤ length (now (text .entry))) ⌝ }
-{
-    let mut i = at;
-    while i < text.len() && text[i] != b'\n' {
-        i += 1;
+// The end of a line, where a call of n bytes has printed one.
+fn ended(n: usize) {
+    if 0 < n {
+        show::words(b"\n");
     }
-    i
 }
 
 fn run(first: Desk, text: &[u8], space: &mut [u8], memory: &mut [u8]) -> Desk
@@ -90,10 +86,10 @@ fn run(first: Desk, text: &[u8], space: &mut [u8], memory: &mut [u8]) -> Desk
     let mut desk = first;
     let mut at = 0;
     while at < text.len() {
-        let end = line_end(text, at);
+        let end = find(text, at, text.len(), b'\n');
         let n = call_of(&text[at..end], space);
         desk = called(desk, &space[..n], memory);
-        show::end(n);
+        ended(n);
         at = end + 1;
     }
     desk

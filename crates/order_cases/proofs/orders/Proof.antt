@@ -1,9 +1,8 @@
 -- `order_cases::orders` ends, and the run stays one that calls made.
-use Prim.Native.Nat.{_-_, _≤_}
+use Prim.Native.Nat.{_-_}
 use native.Mathlib.Omega.{arith}
 use borrow.Author.Needs.{needs}
 use lib.ListN.{length}
-use denote.Ref.{now}
 use Rattle.order_run.specs.Feed.{Going}
 use Rattle.order_cases.proofs.orders.Statement.{statement}
 use Rattle.order_cases.proofs.orders.Tie as tie
@@ -16,12 +15,13 @@ abbrev μ-loop : tie.MeasureT-loop
 
 add-at : tie.Need-add-at Inv-loop μ-loop
 add-at c =
-    let a = c .before .before .before .before .before .before .before .before .before .before .before .before .before in
-    let h : c .before .before .before .before .before .before .before .before .before .mark .result ≤ length (now (a .args .text)) = c .before .before .before .before .before .before .before .before .before .mark .ensures .1 in
-    omega (arith, h, a .good .1 .0 .0)
+    let p = c .before .before .before .before .before .before .before .before .before in
+    omega (arith, p .find .ensures .1, p .before .before .before .before .good .1 .0 .0)
 
 loop-less : tie.Need-loop-less Inv-loop μ-loop
-loop-less c = omega (arith, c .before .before .before .before .before .before .before .before .before .mark .ensures .0, c .before .before .before .before .before .before .before .before .before .before .loop-test .taken)
+loop-less c =
+    let p = c .before .before .before .before .before .before .before .before .before in
+    omega (arith, p .find .ensures .0, p .before .loop-test .taken)
 
 pub orders-spec : {M : Type 1} → statement M
 orders-spec =

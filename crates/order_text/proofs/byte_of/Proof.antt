@@ -7,14 +7,10 @@ use Rattle.order_text.proofs.byte_of.Statement.{statement}
 use Rattle.order_text.proofs.byte_of.Tie as tie
 
 returns : tie.Need-returns
-returns c =
-    let a = c .before .before .before .args in
-    sym (byte-high (a .a) (a .b) (omega arith))
+returns c = sym (byte-high _ _ (omega arith))
 
 returns-2 : tie.Need-returns-2
-returns-2 c =
-    let a = c .before .before .before .before .args in
-    sym (byte-low (a .a) (a .b) (omega arith) (omega arith))
+returns-2 c = sym (byte-low _ _ (omega arith) (omega arith))
 
 returns-3 : tie.Need-returns-3
 returns-3 c =

@@ -18,18 +18,10 @@ returns c =
     told-bad f (lineOf (length f) s) (bad-character (length f) s (sym (c .before .has-bad .ensures) ∙ c .if1 .taken))
 
 returns-2 : tie.Need-returns-2
-returns-2 c =
-    let a = c .before .before .before .before .before .args in
-    let s = now (a .line) in
-    let f = now (a .frame) in
-    told-bad f (lineOf (length f) s) (odd-line (length f) s (c .if2 .taken))
+returns-2 c = search (told-bad, odd-line)
 
 returns-3 : tie.Need-returns-3
-returns-3 c =
-    let a = c .before .before .before .before .before .before .args in
-    let s = now (a .line) in
-    let f = now (a .frame) in
-    told-bad f (lineOf (length f) s) (overlong-line (length f) s (c .if3 .taken))
+returns-3 c = search (told-bad, overlong-line)
 
 store-requires : tie.Need-store-requires
 store-requires c κs =

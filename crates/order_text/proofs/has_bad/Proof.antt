@@ -18,18 +18,6 @@ Inv-digits line i₀ i = (i ≤ length line) × (hasBad line ≡ hasBad (drop i 
 abbrev μ-digits : tie.MeasureT-digits
 μ-digits line i₀ i = length line - i
 
-digits-holds : tie.Need-digits-holds Inv-digits μ-digits
-digits-holds c = (omega arith, refl)
-
-shared-slice-read-digit : tie.Need-shared-slice-read-digit Inv-digits μ-digits
-shared-slice-read-digit c = omega arith
-
-add-i : tie.Need-add-i Inv-digits μ-digits
-add-i c = omega arith
-
-digits-less : tie.Need-digits-less Inv-digits μ-digits
-digits-less c = omega arith
-
 digits-again : tie.Need-digits-again Inv-digits μ-digits
 digits-again c =
     let l = c .before .before .before .before in
@@ -54,10 +42,10 @@ has-bad-spec =
     (tie.spec
     Inv-digits
     μ-digits
-    digits-holds
-    shared-slice-read-digit
+    (λ c. (omega arith, refl))
+    (λ c. omega arith)
     (λ c κs. tt)
-    add-i
-    digits-less
+    (λ c. omega arith)
+    (λ c. omega arith)
     digits-again
     returns)

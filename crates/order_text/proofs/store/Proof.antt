@@ -1,5 +1,5 @@
 -- `order_text::store` meets its contract. The invariant: the first k bytes of the line stand at the front of `frame`.
-use mathlib.Core.Path.{_≡_, refl}
+use mathlib.Core.Path.{_≡_}
 use Prim.Native.Nat.{_-_, _≤_}
 use native.Mathlib.Omega.{arith}
 use lib.ListN.{length, length-set}
@@ -16,38 +16,11 @@ Inv-loop line frame₀ count k₀ frame k = (k ≤ count) × (length frame ≡ l
 abbrev μ-loop : tie.MeasureT-loop
 μ-loop line frame₀ count k₀ frame k = count - k
 
-loop-holds : tie.Need-loop-holds Inv-loop μ-loop
-loop-holds c = (omega arith, refl, paste-zero (now (c .before .before .args .frame)) 0 (bytesOf (now (c .before .before .args .line))))
-
-mul-byte-of : tie.Need-mul-byte-of Inv-loop μ-loop
-mul-byte-of c = omega arith
-
-shared-slice-read-byte-of : tie.Need-shared-slice-read-byte-of Inv-loop μ-loop
-shared-slice-read-byte-of c = omega arith
-
-mul-byte-of-2 : tie.Need-mul-byte-of-2 Inv-loop μ-loop
-mul-byte-of-2 c = omega arith
-
-add-byte-of : tie.Need-add-byte-of Inv-loop μ-loop
-add-byte-of c = omega arith
-
-shared-slice-read-byte-of-2 : tie.Need-shared-slice-read-byte-of-2 Inv-loop μ-loop
-shared-slice-read-byte-of-2 c = omega arith
-
 cast-frame : tie.Need-cast-frame Inv-loop μ-loop
 cast-frame c =
     let l = c .before .before .before .before in
     let a = l .before .before .before .args in
     omega (arith, byte-less (now (a .line)) (l .loop .k) (l .before .before .before .pre .0) (omega arith))
-
-slice-write-frame : tie.Need-slice-write-frame Inv-loop μ-loop
-slice-write-frame c = omega arith
-
-add-k : tie.Need-add-k Inv-loop μ-loop
-add-k c = omega arith
-
-loop-less : tie.Need-loop-less Inv-loop μ-loop
-loop-less c = omega arith
 
 loop-again : tie.Need-loop-again Inv-loop μ-loop
 loop-again c =
@@ -55,17 +28,11 @@ loop-again c =
     let a = l .before .before .before .args in (
       omega arith,
       simp length-set (omega arith),
-      rw (l .loop .inv .2, c .byte-of .ensures) (byte-turn (now (a .frame)) (now (a .line)) (l .loop .k) (omega arith) (omega arith)),
+      rw (l .loop .inv .2, c .byte-of .ensures) (byte-turn (now (a .frame)) (now (a .line)) 0 (l .loop .k) (l .loop .k) (omega arith) (omega arith) (omega arith)),
     )
 
-same-length : tie.Need-same-length Inv-loop μ-loop
-same-length c = omega arith
-
 returns : tie.Need-returns Inv-loop μ-loop
-returns c =
-    let l = c .before in
-    let e : l .loop .k ≡ l .before .before .before .args .count = omega arith in
-    rw (← e) (l .loop .inv .2)
+returns c = let e : c .before .loop .k ≡ c .before .before .before .before .args .count = omega arith in cc
 
 pub store-spec : {M : Type 1} → statement M
 store-spec =
@@ -73,17 +40,17 @@ store-spec =
     (tie.spec
     Inv-loop
     μ-loop
-    loop-holds
-    mul-byte-of
-    shared-slice-read-byte-of
-    mul-byte-of-2
-    add-byte-of
-    shared-slice-read-byte-of-2
+    (λ c. search (arith, paste-zero))
+    (λ c. omega arith)
+    (λ c. omega arith)
+    (λ c. omega arith)
+    (λ c. omega arith)
+    (λ c. omega arith)
     (λ c κs. tt)
     cast-frame
-    slice-write-frame
-    add-k
-    loop-less
+    (λ c. omega arith)
+    (λ c. omega arith)
+    (λ c. omega arith)
     loop-again
-    same-length
+    (λ c. omega arith)
     returns)

@@ -15,9 +15,6 @@ Inv-loop table₀ i₀ table i = (i ≤ 256) × (length table ≡ 256) × ((k : 
 abbrev μ-loop : tie.MeasureT-loop
 μ-loop table₀ i₀ table i = 256 - i
 
-loop-holds : tie.Need-loop-holds Inv-loop μ-loop
-loop-holds c = (omega arith, refl, below-none _)
-
 loop-again : tie.Need-loop-again Inv-loop μ-loop
 loop-again c =
     let l = c .before .before .loop in
@@ -38,7 +35,7 @@ digit-table-spec =
     (tie.spec
     Inv-loop
     μ-loop
-    loop-holds
+    (λ c. (omega arith, refl, below-none _))
     (λ c. omega arith)
     (λ c κs. tt)
     (λ c. omega arith)

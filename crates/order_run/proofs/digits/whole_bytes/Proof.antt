@@ -23,7 +23,7 @@ returns-2 : tie.Need-returns-2
 returns-2 c =
     let e = c .before .before .before .before in
     let a = e .args in
-    (none-whole (drop (a .from) (now (a .text))) (now (a .frame)) (a .part .count) (e .pre .1 .1 .0 .room), λ (h : 0 < 0). absurd (omega arith))
+    (none-whole (e .pre .1 .1 .0 .room), λ (h : 0 < 0). absurd (omega arith))
 
 pub whole-bytes-spec : {M : Type 1} → statement M
 whole-bytes-spec =

@@ -1,16 +1,16 @@
--- `cases::show::fill` ends, and writes no byte past the end.
+-- `cases::fill` ends, and writes no byte past the end.
 use mathlib.Core.Path.{_≡_, refl}
 use Prim.Native.Nat.{_-_}
 use native.Mathlib.Omega.{arith}
 use lib.ListN.{length, length-set}
-use Rattle.cases.proofs.show.fill.Statement.{statement}
-use Rattle.cases.proofs.show.fill.Tie as tie
+use Rattle.cases.proofs.fill.Statement.{statement}
+use Rattle.cases.proofs.fill.Tie as tie
 
 abbrev Inv-loop : tie.InvT-loop
-Inv-loop s₀ b i₀ s i = length s ≡ length s₀
+Inv-loop buffer₀ i₀ buffer i = length buffer ≡ length buffer₀
 
 abbrev μ-loop : tie.MeasureT-loop
-μ-loop s₀ b i₀ s i = length s - i
+μ-loop buffer₀ i₀ buffer i = length buffer - i
 
 pub fill-spec : {M : Type 1} → statement M
 fill-spec =
