@@ -38,7 +38,8 @@ otherwise c d = record {
   counter = c .counter;
 }
 
--- the record that a change makes of d
+-- The record that a change makes of d. The one rule has two forms: `changed` makes it of a record by value, and lent's `apply` where the
+-- record lies. Both loops cite the laws of `moved` (proofs/Moved).
 abbrev pub changedBy : Change → Desk → Desk
 changedBy c d = pick (c .kept) d (otherwise c d)
 

@@ -105,7 +105,7 @@ pub(crate) fn moves_on(answer: Answer, desk: Desk, seat: u8, next: Next) -> Chan
     }
 }
 
-// The change made, by value.
+// `calledBy` by value.
 pub fn changed(desk: Desk, change: Change) -> Called
     requires { ⌜ Within change ⌝ }
     ensures { λ r. ⌜ r ≡ calledBy change desk ⌝ }

@@ -14,7 +14,7 @@ ghost use Rattle.lent.specs.Found.{found};
 
 pub mod order;
 
-// The change made where the record lies.
+// `calledBy` where the record lies.
 fn apply(desk: &mut Desk, change: Change) -> Answer
     requires { ⌜ Within change ⌝ }
     ensures { λ r. ⌜ found r (now (desk .exit)) ≡ calledBy change (now (desk .entry)) ⌝ }

@@ -21,28 +21,28 @@ use Rattle.judge.specs.Examples.{Shown, blank}
 use Rattle.linked.specs.Judging.{unjudged, verdictFor, placeFor, begunBy, toldOf, wentOn, rulingFor, givenBy}
 
 -- 0x1018:01 is asked for, and a buffer of 6 bytes 0xee is lent
-abbrev pub judged : ℕ → ℕ → List ℕ → Shown
-judged kind earlier s = givenBy (rulingFor kind 0x1018 1 earlier s (blank 6)) (blank 6)
+abbrev pub answered : ℕ → ℕ → List ℕ → Shown
+answered kind earlier s = givenBy (rulingFor kind 0x1018 1 earlier s (blank 6)) (blank 6)
 
 abbrev pub examples : List (Shown × Shown)
 examples =
     -- an upload's data lie at the start, whatever `earlier` is; where segments follow there is no chunk yet
-    (judged 1 2 (hex 14 0x0a000000001300304b181001aabb), (doneWith 2, hex 6 0xaabbeeeeeeee))
-    ∷ (judged 1 0 (hex 16 0x0a000000001300304018100106000000), (wentOn 0x01 0 0, blank 6))
-    ∷ (judged 3 0 (hex 16 0x0a000000001300306018100100000000), (doneWith 0, blank 6))
+    (answered 1 2 (hex 14 0x0a000000001300304b181001aabb), (doneWith 2, hex 6 0xaabbeeeeeeee))
+    ∷ (answered 1 0 (hex 16 0x0a000000001300304018100106000000), (wentOn 0x01 0 0, blank 6))
+    ∷ (answered 3 0 (hex 16 0x0a000000001300306018100100000000), (doneWith 0, blank 6))
     -- a segment's chunk lies behind the earlier ones; 01 names the chunk, and 00 the sum
-    ∷ (judged 7 3 (hex 14 0x050000000013003000000000aabb), (wentOn 0x01 0 2, hex 6 0xeeeeeeaabbee))
-    ∷ (judged 7 3 (hex 14 0x050000000013003001000000aabb), (doneWith 5, hex 6 0xeeeeeeaabbee))
+    ∷ (answered 7 3 (hex 14 0x050000000013003000000000aabb), (wentOn 0x01 0 2, hex 6 0xeeeeeeaabbee))
+    ∷ (answered 7 3 (hex 14 0x050000000013003001000000aabb), (doneWith 5, hex 6 0xeeeeeeaabbee))
     -- a list's first fragment begins at byte 14 and the later ones at 12; 02 names the chunk, and that the list has begun
-    ∷ (judged 4 0 (hex 16 0x0a0000000013008082000100aabbccdd), (wentOn 0x02 1 2, hex 6 0xccddeeeeeeee))
-    ∷ (judged 8 2 (hex 16 0x0a0000000013008082000100aabbccdd), (wentOn 0x02 1 2, hex 6 0xeeeeaabbeeee))
-    ∷ (judged 8 2 (hex 16 0x0a0000000013008002000000aabbccdd), (doneWith 4, hex 6 0xeeeeaabbeeee))
+    ∷ (answered 4 0 (hex 16 0x0a0000000013008082000100aabbccdd), (wentOn 0x02 1 2, hex 6 0xccddeeeeeeee))
+    ∷ (answered 8 2 (hex 16 0x0a0000000013008082000100aabbccdd), (wentOn 0x02 1 2, hex 6 0xeeeeaabbeeee))
+    ∷ (answered 8 2 (hex 16 0x0a0000000013008002000000aabbccdd), (doneWith 4, hex 6 0xeeeeaabbeeee))
     -- an operation other than 2: the list has begun where it had before
-    ∷ (judged 4 0 (hex 12 0x0a0000000013008003000000), (wentOn 0x02 0 0, blank 6))
-    ∷ (judged 8 2 (hex 12 0x0a0000000013008003000000), (wentOn 0x02 1 0, blank 6))
+    ∷ (answered 4 0 (hex 12 0x0a0000000013008003000000), (wentOn 0x02 0 0, blank 6))
+    ∷ (answered 8 2 (hex 12 0x0a0000000013008003000000), (wentOn 0x02 1 0, blank 6))
     -- refusals
-    ∷ (judged 2 0 (hex 14 0x0a000000001300304b181001aabb), (plainOf 0x15, blank 6))
-    ∷ (judged 7 5 (hex 14 0x050000000013003000000000aabb), (plainOf 0x25, blank 6))
+    ∷ (answered 2 0 (hex 14 0x0a000000001300304b181001aabb), (plainOf 0x15, blank 6))
+    ∷ (answered 7 5 (hex 14 0x050000000013003000000000aabb), (plainOf 0x25, blank 6))
     ∷ []
 
 pub examples-hold : map (λ (e : Shown × Shown). e .0) examples ≡ map (λ (e : Shown × Shown). e .1) examples

@@ -8,7 +8,7 @@ use order_run::Run;
 ghost use Rattle.order_run.specs.Feed.{Going};
 
 // At a mark the order ends, and a new run begins. What the order left in the buffers stays there, and is never printed.
-fn settled(
+fn renewed(
     run: Run,
     marked: bool,
     frame: &mut [u8; 1486],
@@ -41,7 +41,7 @@ fn orders(
     while at < text.len() {
         let end = find(text, at, text.len(), b'=');
         run = order_io::fed(run, &text[at..end], frame, data, out);
-        run = settled(run, end < text.len(), frame, data, out);
+        run = renewed(run, end < text.len(), frame, data, out);
         at = end + 1;
     }
     run

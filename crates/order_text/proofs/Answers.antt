@@ -11,10 +11,10 @@ use Rattle.order_text.specs.declared.Decoded.the-variants as decoded
 use Rattle.order_text.proofs.Lines.{length-bytes}
 use Rattle.order_text.proofs.Refused.{good-only}
 
-abbrev pub Told : List ℕ → Line → Type 0
-Told f l = (decoded.Bad ≡ answerOf l) × (f ≡ leftIn f l)
+abbrev pub ToldBad : List ℕ → Line → Type 0
+ToldBad f l = (decoded.Bad ≡ answerOf l) × (f ≡ leftIn f l)
 
-pub told-bad : (f : List ℕ) (l : Line) → l ≡ bad → Told f l
+pub told-bad : (f : List ℕ) (l : Line) → l ≡ bad → ToldBad f l
 told-bad f l e = (ap answerOf (sym e), ap (leftIn f) (sym e))
 
 -- the bytes of a line that fit, pasted in front, are what a good line leaves

@@ -17,21 +17,21 @@ abbrev done : ℕ
 done = 0x00
 
 -- a number, and the values beside it
-abbrev pub Told : Type 0
-Told = ℕ × List ℤ
+abbrev pub Valued : Type 0
+Valued = ℕ × List ℤ
 
-abbrev pub ofUnsigned : UnsignedRead → Told
+abbrev pub ofUnsigned : UnsignedRead → Valued
 ofUnsigned (unsigned.Value v) = (done, pos v ∷ [])
 ofUnsigned (unsigned.Refused number) = (number, [])
 
-abbrev pub ofSigned : SignedRead → Told
+abbrev pub ofSigned : SignedRead → Valued
 ofSigned (signed.Value v) = (done, v ∷ [])
 ofSigned (signed.Refused number) = (number, [])
 
-abbrev pub ofItem : ItemRead → Told
+abbrev pub ofItem : ItemRead → Valued
 ofItem (item.Item index next) = (done, pos index ∷ pos next ∷ [])
 ofItem (item.Refused number) = (number, [])
 
-abbrev pub ofQuantities : QuantitiesRead → Told
+abbrev pub ofQuantities : QuantitiesRead → Valued
 ofQuantities (quantities.Counts c) = (done, map (λ (n : ℕ). pos n) (inOrder c))
 ofQuantities (quantities.Refused number) = (number, [])

@@ -4,22 +4,22 @@ use Prim.Native.Nat.{ℕ}
 use mathlib.Core.List.{List, [], _∷_, map}
 use lib.IntN.{ℤ, pos, negℤ}
 use Rattle.wire.specs.Bytes.{hex}
-use Rattle.reads.specs.Answers.{Told, ofUnsigned, ofSigned, ofItem, ofQuantities}
+use Rattle.reads.specs.Answers.{Valued, ofUnsigned, ofSigned, ofItem, ofQuantities}
 use Rattle.reads.specs.Typed.{unsignedRead, signedRead}
 use Rattle.reads.specs.Signed.{signedOf}
 use Rattle.reads.specs.List.{itemAt}
 use Rattle.reads.specs.Quantities.{quantitiesRead}
 
-abbrev gives : ℤ → Told
+abbrev gives : ℤ → Valued
 gives z = (0, z ∷ [])
 
-abbrev refused : Told
+abbrev refused : Valued
 refused = (0x20, [])
 
 abbrev minus : ℕ → ℤ
 minus n = negℤ (pos n)
 
-unfoldable pub examples : List (Told × Told)
+unfoldable pub examples : List (Valued × Valued)
 examples =
     -- "Signed 16-bit ffff is -1, 0080 is -32,768."
     (ofSigned (signedRead 2 (hex 2 0xffff)), gives (minus 1))
@@ -57,6 +57,6 @@ examples =
     ∷ (ofQuantities (quantitiesRead (hex 9 0x010002000300040005)), refused)
     ∷ []
 
-pub examples-hold : map (λ (e : Told × Told). e .0) examples ≡ map (λ (e : Told × Told). e .1) examples
+pub examples-hold : map (λ (e : Valued × Valued). e .0) examples ≡ map (λ (e : Valued × Valued). e .1) examples
 unfolding examples unsignedRead signedRead signedOf itemAt quantitiesRead
 examples-hold = refl
