@@ -15,6 +15,4 @@ returns-2 c =
     simp (le-ltb _ _ (c4 .before .if1 .left), c4 .word-at .ensures, c .before .before .before .word-at2 .ensures, c .before .before .word-at3 .ensures, c .before .word-at4 .ensures, c .word-at5 .ensures)
 
 pub read-quantities-spec : {M : Type 1} → statement M
-read-quantities-spec =
-    tie.close
-    (tie.spec returns (λ c κs. tt) (λ c κs. tt) (λ c κs. tt) (λ c κs. tt) (λ c κs. tt) returns-2)
+read-quantities-spec = tie.close (search (tie.spec, returns, returns-2))
