@@ -9,6 +9,7 @@ use bytes::scan::find;
 use libc::STDIN_FILENO;
 use order_text::Decoded;
 ghost use mathlib.Core.Path.{_≡_};
+ghost use Prim.Native.Nat.{_≤_};
 ghost use lib.ListN.{length};
 
 const FILL: u8 = 0xa5;
@@ -23,6 +24,20 @@ fn case_space() -> [u8; 2048]
     ensures { λ r. ⌜ 2048 ≡ length r ⌝ }
 {
     [0; 2048]
+}
+
+// How many bytes of a case stand in front of a download's data or of a reply: the last are the frame's size, in two bytes, or the data
+// buffer's length, in four.
+pub(crate) fn head(case: &[u8]) -> usize
+    ensures { λ r. ⌜ (5 ≤ r) × (r ≤ 10) ⌝ }
+{
+    match wire::byte(case, 0) {
+        0x03 => 5,
+        0x04 => 6,
+        0x12 => 9,
+        0x13 => 10,
+        _ => 8,
+    }
 }
 
 // What a buffer holds before a case writes to it.

@@ -1,18 +1,7 @@
 // The judge: the answer, the data buffer's first bytes and the check of all of it, and the byte behind it.
 use crate::fill;
+use crate::head;
 use judge::Verdict;
-ghost use Prim.Native.Nat.{_≤_};
-
-// How many bytes of a case stand in front of the reply: the last four are the data buffer's length.
-fn head(kind: u8) -> usize
-    ensures { λ r. ⌜ (8 ≤ r) × (r ≤ 10) ⌝ }
-{
-    match kind {
-        0x12 => 9,
-        0x13 => 10,
-        _ => 8,
-    }
-}
 
 // What earlier replies stored, of a segment and of a list.
 fn earlier(case: &[u8]) -> u32 {
@@ -40,7 +29,7 @@ fn judged(case: &[u8], reply: &[u8], n: u32, data: &mut [u8]) {
 }
 
 pub(crate) fn reply(case: &[u8], buffer: &mut [u8]) {
-    let head = head(wire::byte(case, 0));
+    let head = head(case);
     let n = wire::long_at(case, head - 4);
     let size = n as usize;
     if head <= case.len() {

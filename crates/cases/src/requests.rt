@@ -1,5 +1,6 @@
 // The writers: the number, the first sixteen bytes behind the buffer's start, its last byte and the byte behind it.
 use crate::fill;
+use crate::head;
 use mailbox::sub_index::SubIndex;
 use services::Request;
 use services::Wrote;
@@ -16,21 +17,7 @@ fn written(wrote: Wrote, size: usize, buffer: &[u8]) {
     show::next(wire::byte(buffer, size) as u64, 2);
 }
 
-fn download(case: &[u8], frame: &mut [u8]) -> Wrote {
-    if case.len() < 8 {
-        return Wrote::Refused(0);
-    }
-    services::checked::download_frame(
-        wire::byte(case, 1),
-        wire::word_at(case, 2),
-        wire::byte(case, 4),
-        wire::byte(case, 5),
-        &case[8..],
-        frame,
-    )
-}
-
-fn wrote(case: &[u8], frame: &mut [u8]) -> Wrote {
+fn wrote(case: &[u8], data: &[u8], frame: &mut [u8]) -> Wrote {
     match wire::byte(case, 0) {
         0x01 => services::checked::upload_frame(
             wire::byte(case, 1),
@@ -39,27 +26,28 @@ fn wrote(case: &[u8], frame: &mut [u8]) -> Wrote {
             wire::byte(case, 5),
             frame,
         ),
-        0x02 => download(case, frame),
+        0x02 => services::checked::download_frame(
+            wire::byte(case, 1),
+            wire::word_at(case, 2),
+            wire::byte(case, 4),
+            wire::byte(case, 5),
+            data,
+            frame,
+        ),
         0x03 => services::checked::segment_frame(wire::byte(case, 1), wire::byte(case, 2), frame),
         _ => services::checked::list_frame(wire::byte(case, 1), wire::word_at(case, 2), frame),
     }
 }
 
-// Where a case has the frame's size.
-fn size_at(kind: u8) -> usize {
-    match kind {
-        0x03 => 3,
-        0x04 => 4,
-        _ => 6,
-    }
-}
-
 pub(crate) fn frame(case: &[u8], buffer: &mut [u8]) {
-    let size = wire::word_at(case, size_at(wire::byte(case, 0))) as usize;
-    if size <= buffer.len() {
-        fill(buffer);
-        let wrote = wrote(case, &mut buffer[0..size]);
-        written(wrote, size, buffer);
+    let head = head(case);
+    let size = wire::word_at(case, head - 2) as usize;
+    if head <= case.len() {
+        if size <= buffer.len() {
+            fill(buffer);
+            let wrote = wrote(case, &case[head..], &mut buffer[0..size]);
+            written(wrote, size, buffer);
+        }
     }
 }
 

@@ -18,7 +18,7 @@ pub fn space() -> [u8; ROOM]
 
 fn print(out: &[u8], n: usize) {
     if n <= out.len() {
-        io::write_all(STDOUT_FILENO, &out[..n]);
+        io::write_all(STDOUT_FILENO, &out[0..n]);
     }
 }
 

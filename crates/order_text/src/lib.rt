@@ -2,8 +2,8 @@
 // and the text of bytes is hexText of specs/Text.antt; that each undoes the other is in proofs/Back.antt.
 ghost use mathlib.Core.Path.{_≡_};
 ghost use mathlib.Core.Bool.{false};
-ghost use Prim.Native.Nat.{_+_, _-_, _*_, _/_, _%_, _≤_, min};
-ghost use lib.ListN.{length};
+ghost use Prim.Native.Nat.{_+_, _-_, _*_, _/_, _%_, _<_, _≤_, min};
+ghost use lib.ListN.{length, getD};
 ghost use lib.Seq.{paste};
 ghost use Rattle.wire.specs.Store.{laid};
 ghost use Rattle.order_text.specs.Digits.{digitOf, charOf, byteOf};
@@ -68,6 +68,14 @@ fn has_bad(line: &[u8]) -> bool
     i < line.len()
 }
 
+// What the two characters of the line's byte k say.
+fn byte_at(line: &[u8], k: usize) -> u16
+    requires { ⌜ 2 * k + 1 < length (now line) ⌝ }
+    ensures { λ r. ⌜ r ≡ byteOf (getD (now (line .entry)) (2 * k) 0) (getD (now (line .entry)) (2 * k + 1) 0) ⌝ }
+{
+    byte_of(line[2 * k], line[2 * k + 1])
+}
+
 // The first `count` bytes of a line of digits, at the front of `frame`.
 fn store(line: &[u8], frame: &mut [u8], count: usize)
     requires { ⌜ hasBad (now line) ≡ false ⌝ }
@@ -77,7 +85,7 @@ fn store(line: &[u8], frame: &mut [u8], count: usize)
 {
     let mut k = 0;
     while k < count {
-        frame[k] = byte_of(line[2 * k], line[2 * k + 1]) as u8;
+        frame[k] = byte_at(line, k) as u8;
         k += 1;
     }
 }

@@ -1,11 +1,9 @@
 -- `feed` meets its contract: a piece is cut to its room.
-use mathlib.Core.Path.{_≡_, ap, _∙_, subst}
-use mathlib.Core.List.{List}
+use mathlib.Core.Path.{_≡_, ap, _∙_}
 use Prim.Native.Nat.{ℕ}
 use native.Mathlib.Omega.{arith}
 use denote.Ref.{now}
 use lib.ListN.{take, length-take}
-use Rattle.order_run.specs.Feed.{stOf, after, Feeds}
 use Rattle.order_run.proofs.Printing.{take-least}
 use Rattle.order_run.proofs.Closing.{feeds-within}
 use borrow.Author.Needs.{needs}
@@ -22,12 +20,9 @@ feed-piece-requires c κs =
 returns : tie.Need-returns
 returns c =
     let a = c .before .before .before .before .before .before .before .before .before .args in
-    let f = c .feed-piece in
-    let e : take (c .before .before .before .before .before .before .before .least .result) (now (a .text)) ≡ take 4096 (now (a .text)) =
-    ap (λ (n : ℕ). take n (now (a .text))) (c .before .before .before .before .before .before .before .least .ensures) ∙ take-least 4096 (now (a .text)) in
-    subst
-    (λ (t : List ℕ). Feeds (after (stOf (a .run) (now (a .frame)) (now (a .«data»))) t) 4096 (f .result) (f .last .1 .1 .1 .0) (f .last .1 .1 .1 .1 .0) (now (a .out)) (f .last .1 .1 .1 .1 .1 .0))
-    e (feeds-within (simp length-take (omega (arith, c .before .before .before .before .before .before .before .least .ensures))) (f .ensures))
+    let l = c .before .before .before .before .before .before .before .least in
+    let e : take (l .result) (now (a .text)) ≡ take 4096 (now (a .text)) = ap (λ (n : ℕ). take n (now (a .text))) (l .ensures) ∙ take-least 4096 (now (a .text)) in
+    rw e at (feeds-within {m = 4096} (simp length-take (omega (arith, l .ensures))) (c .feed-piece .ensures))
 
 pub feed-spec : {M : Type 1} → statement M
 feed-spec =

@@ -1,7 +1,7 @@
 -- `last_line` meets its contract.
-use mathlib.Core.Path.{sym, _∙_, subst}
+use mathlib.Core.Path.{sym, _∙_}
 use denote.Ref.{now}
-use Rattle.order_run.specs.Feed.{Did, stOf, Feeds}
+use Rattle.order_run.specs.Feed.{stOf}
 use Rattle.order_run.proofs.Closing.{ended-here, nothing-fed}
 use borrow.Author.Needs.{needs}
 use Rattle.order_run.proofs.last_line.Statement.{statement}
@@ -12,7 +12,7 @@ returns c =
     let a = c .before .before .before .before .before .before .before .before .args in
     let s = stOf (a .run) (now (a .frame)) (now (a .«data»)) in
     let e = ended-here s (sym (c .before .before .before .before .before .before .is-begun .ensures) ∙ c .before .before .before .before .before .if1 .taken) in
-    subst (λ (x : Did). Feeds x 4096 (c .feed .result) (c .feed .last .1 .1 .0) (c .feed .last .1 .1 .1 .0) (now (a .out)) (c .feed .last .1 .1 .1 .1 .0)) e (c .feed .ensures)
+    rw e at (c .feed .ensures)
 
 returns-2 : tie.Need-returns-2
 returns-2 c =

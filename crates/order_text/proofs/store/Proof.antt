@@ -18,21 +18,18 @@ abbrev μ-loop : tie.MeasureT-loop
 
 cast-frame : tie.Need-cast-frame Inv-loop μ-loop
 cast-frame c =
-    let l = c .before .before .before .before in
+    let l = c .before .before in
     let a = l .before .before .before .args in
     omega (arith, byte-less (now (a .line)) (l .loop .k) (l .before .before .before .pre .0) (omega arith))
 
 loop-again : tie.Need-loop-again Inv-loop μ-loop
 loop-again c =
-    let l = c .before .before .before .before in
+    let l = c .before .before in
     let a = l .before .before .before .args in (
       omega arith,
       simp length-set (omega arith),
-      rw (l .loop .inv .2, c .byte-of .ensures) (byte-turn (now (a .frame)) (now (a .line)) 0 (l .loop .k) (l .loop .k) (omega arith) (omega arith) (omega arith)),
+      rw (l .loop .inv .2, c .byte-at .ensures) (byte-turn (now (a .frame)) (now (a .line)) 0 (l .loop .k) (l .loop .k) (omega arith) (omega arith) (omega arith)),
     )
-
-returns : tie.Need-returns Inv-loop μ-loop
-returns c = let e : c .before .loop .k ≡ c .before .before .before .before .args .count = omega arith in cc
 
 pub store-spec : {M : Type 1} → statement M
 store-spec =
@@ -41,16 +38,11 @@ store-spec =
     Inv-loop
     μ-loop
     (λ c. search (arith, paste-zero))
-    (λ c. omega arith)
-    (λ c. omega arith)
-    (λ c. omega arith)
-    (λ c. omega arith)
-    (λ c. omega arith)
-    (λ c κs. tt)
+    (λ c κs. omega arith)
     cast-frame
     (λ c. omega arith)
     (λ c. omega arith)
     (λ c. omega arith)
     loop-again
     (λ c. omega arith)
-    returns)
+    (λ c. let e : c .before .loop .k ≡ c .before .before .before .before .args .count = omega arith in cc))

@@ -29,9 +29,6 @@ loop-again c =
           (text-turn (now (a .out)) (now (a .bytes)) (a .at) (l .loop .i) (omega arith) (omega arith)),
     )
 
-returns : tie.Need-returns Inv-loop μ-loop
-returns c = let e : c .before .loop .i ≡ c .before .before .before .before .args .count = omega arith in cc
-
 pub write-spec : {M : Type 1} → statement M
 write-spec =
     tie.close
@@ -53,4 +50,4 @@ write-spec =
     (λ c. omega arith)
     loop-again
     (λ c. omega arith)
-    returns)
+    (λ c. let e : c .before .loop .i ≡ c .before .before .before .before .args .count = omega arith in cc))

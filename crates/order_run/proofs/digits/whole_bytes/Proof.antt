@@ -1,13 +1,10 @@
 -- `whole_bytes` meets its contract: whole bytes where none is begun, and none where one is.
-use mathlib.Core.Path.{subst}
-use mathlib.Core.List.{List}
-use Prim.Native.Nat.{ℕ, _-_, _<_}
+use Prim.Native.Nat.{_-_, _<_}
 use native.Mathlib.Omega.{arith}
 use lib.ListN.{length, drop, length-drop}
 use lib.Seq.{take-all}
 use borrow.Author.Needs.{needs}
 use denote.Ref.{now}
-use Rattle.order_run.specs.Feed.{Whole}
 use Rattle.order_run.proofs.Parts.{none-whole}
 use Rattle.order_run.proofs.digits.whole_bytes.Statement.{statement}
 use Rattle.order_run.proofs.digits.whole_bytes.Tie as tie
@@ -17,13 +14,10 @@ returns c =
     let a = c .before .before .before .before .before .before .before .before .before .args in
     let t = now (a .text) in
     let all = take-all (length t - a .from) (drop (a .from) t) (omega (arith, length-drop (a .from) t)) in
-    (subst (λ (x : List ℕ). Whole x (a .part .count) (now (a .frame)) (c .before .before .pairs .result) (c .before .before .pairs .last .1 .1 .0)) all (c .before .before .pairs .ensures), λ h. c .before .before .before .before .before .if1 .taken)
+    (rw all at (c .before .before .pairs .ensures), λ h. c .before .before .before .before .before .if1 .taken)
 
 returns-2 : tie.Need-returns-2
-returns-2 c =
-    let e = c .before .before .before .before in
-    let a = e .args in
-    (none-whole (e .pre .1 .1 .0 .room), λ (h : 0 < 0). absurd (omega arith))
+returns-2 c = (none-whole (c .before .before .before .before .pre .1 .1 .0 .room), λ (h : 0 < 0). absurd (omega arith))
 
 pub whole-bytes-spec : {M : Type 1} → statement M
 whole-bytes-spec =

@@ -7,16 +7,10 @@ use Rattle.order_run.proofs.turns.print_line.Statement.{statement}
 use Rattle.order_run.proofs.turns.print_line.Tie as tie
 
 slice-write-out : tie.Need-slice-write-out
-slice-write-out c =
-    let a = c .before .before .before .before .before .before .args in
-    let e = c .before .before .encode-at .ensures in
-    line-room (now (a .out)) (now (a .bytes)) (a .at) _ _ (c .before .before .before .before .before .before .pre) (e .0) (e .1)
+slice-write-out c = search line-room
 
 add-result : tie.Need-add-result
-add-result c =
-    let a = c .before .before .before .before .before .before .args in
-    let e = c .before .before .encode-at .ensures in
-    omega (arith, line-room (now (a .out)) (now (a .bytes)) (a .at) _ _ (c .before .before .before .before .before .before .pre) (e .0) (e .1))
+add-result c = omega (arith, slice-write-out c)
 
 returns : tie.Need-returns
 returns c =
