@@ -38,19 +38,6 @@ returns-4 c =
 
 pub coe-judge-spec : {M : Type 1} → statement M
 coe-judge-spec =
-    tie.close
-    (tie.spec
-    (λ c κs. tt)
-    (λ c κs. tt)
-    returns
-    (λ c κs. tt)
-    returns-2
-    (λ c κs. tt)
-    returns-3
-    (λ c. search needs)
-    (λ c κs. tt)
-    (λ c κs. tt)
-    (λ c κs. tt)
-    (λ c κs. tt)
-    (λ c. search needs)
-    returns-4)
+    let fits : tie.Need-cast-verdict-for = λ c. search needs in
+    let long : tie.Need-same-length = λ c. search needs in
+    tie.close (search (tie.spec, fits, long, returns, returns-2, returns-3, returns-4))

@@ -33,7 +33,7 @@ use Rattle.judge.specs.declared.Answer.{Answer}
 use Rattle.desk.proofs.Desk as T
 use Rattle.judge.proofs.Answer as E
 use Rattle.judge.proofs.Answer.Laws as E′
-use Rattle.lent.proofs.Closing.{Params, number, lent, slice, freed, here, returned, bound, closed}
+use Rattle.lent.proofs.Closing.{Params, number, lent, slice, here, returned, bound, closed}
 use Rattle.lent.proofs.enter as core
 use Rattle.lent.proofs.enter.Met as core-thm
 use Rattle.linked.proofs.lending.coe_desk_enter.Key.{name as #self}
@@ -103,17 +103,15 @@ pub coe-desk-enter-spec : {M : Type 1} → stated.statement M
 unfolding code.routine
 coe-desk-enter-spec 𝓤 H 𝓜 𝓖 𝓡 =
     let W = givenOf 𝓤 H 𝓜 𝓖 in
-    closed 𝓤 H 𝓜 𝓖 𝓡 code.env #self code.function f.signature (f.spec 𝓤 H (𝓖 .A) (𝓜 .mem) (𝓡 .run)) (ps W) (code.unfolded 𝓤 H 𝓜 𝓡)
-    (λ κs. refl) (λ fm κs shares ok a g are bs.
+    closed 𝓤 H 𝓜 𝓖 𝓡 code.env #self code.function f.signature (f.spec 𝓤 H) (ps W) (code.unfolded 𝓤 H 𝓜 𝓡) (λ κs. refl)
+    (λ fm κs shares ok a g bs are.
     assigns ! (addr ! (from ! (hop ! (look ! 13 refl) (stop !)))) (from ! (stop !)) (init ! 1 refl (tt, tt)) $
     use1 W (raw (tripleOf 𝓤 H (𝓖 .A) core.signature (core.spec 𝓤 H (𝓖 .A) (𝓜 .mem) (𝓡 .run)) .pre
-    (z 𝓤 H (𝓖 .A) W (𝓜 .mem) (𝓡 .run) κs shares a)))
-    (asked 𝓤 H (𝓖 .A) W (𝓜 .mem) (𝓡 .run) κs shares a) $
+    (z 𝓤 H (𝓖 .A) W (𝓜 .mem) (𝓡 .run) κs shares a))) (asked 𝓤 H (𝓖 .A) W (𝓜 .mem) (𝓡 .run) κs shares a) $
     returned 𝓤 H (𝓖 .A) core.signature (core.spec 𝓤 H (𝓖 .A) (𝓜 .mem) (𝓡 .run))
     (z 𝓤 H (𝓖 .A) W (𝓜 .mem) (𝓡 .run) κs shares a) ! fm
-    (core-thm.met 𝓤 H 𝓜 𝓖 𝓡) (LL.lawful E.the-type E′.the-laws 𝓤 H (𝓖 .A) W) refl
+    (core-thm.met 𝓤 H 𝓜 𝓖 𝓡) (LL.lawful E.the-type E′.the-laws 𝓤 H (𝓖 .A) W) (code.function .locals) bs
+    (_ ∷ _ ∷ _ ∷ _ ∷ _ ∷ _ ∷ _ ∷ []) refl
     (and-then ! (here ! 1 refl) (and-then ! (here ! 11 refl) (and-then ! (here ! 9 refl)
     (and-then ! (here ! 7 refl) (and-then ! (here ! 5 refl)
-    (and-then ! (here ! 3 refl) (and-then ! (neg-lit ! tt) (no-more !))))))))
-    (ends 𝓤 H (𝓖 .A) W (𝓜 .mem) (𝓡 .run) κs shares a) 14 refl (λ _. refl)
-    (λ v. freed ! (_ ∷ []) (code.function .locals) bs (_ ∷ _ ∷ _ ∷ _ ∷ _ ∷ _ ∷ _ ∷ _ ∷ []) []))
+    (and-then ! (here ! 3 refl) (and-then ! (neg-lit ! tt) (no-more !)))))))) (ends 𝓤 H (𝓖 .A) W (𝓜 .mem) (𝓡 .run) κs shares a))

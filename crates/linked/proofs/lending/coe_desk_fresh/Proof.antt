@@ -25,9 +25,9 @@ pub coe-desk-fresh-spec : {M : Type 1} → stated.statement M
 unfolding code.routine
 coe-desk-fresh-spec 𝓤 H 𝓜 𝓖 𝓡 =
     let W = givenOf 𝓤 H 𝓜 𝓖 in
+    closed 𝓤 H 𝓜 𝓖 𝓡 code.env #self code.function f.signature (f.spec 𝓤 H) (λ κs. (lent W 0 (κs .0) T.the-row, tt))
+    (code.unfolded 𝓤 H 𝓜 𝓡) (λ κs. refl) (λ fm κs qs ok a g bs are.
     let c = f.spec 𝓤 H (𝓖 .A) (𝓜 .mem) (𝓡 .run) in
-    closed 𝓤 H 𝓜 𝓖 𝓡 code.env #self code.function f.signature c (λ κs. (lent W 0 (κs .0) T.the-row, tt)) (code.unfolded 𝓤 H 𝓜 𝓡)
-    (λ κs. refl) (λ fm κs qs ok a g are bs.
     let y = bound 𝓤 H (𝓖 .A) f.signature c (λ κs. (lent W 0 (κs .0) T.the-row, tt)) κs qs ok a g in
     let P = tripleOf 𝓤 H (𝓖 .A) f.signature c in
     assigns ! (addr ! (from ! (hop ! (look ! 5 refl) (stop !)))) (from ! (stop !)) (init ! 1 refl (tt, tt)) $

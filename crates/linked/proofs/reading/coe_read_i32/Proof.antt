@@ -2,8 +2,6 @@
 use Rattle.linked.proofs.reading.coe_read_i32.Statement.{statement}
 use Rattle.linked.proofs.reading.coe_read_i32.Tie as tie
 
-returns : tie.Need-returns
-returns c = rw (← c .before .read-i32 .ensures) (c .signed-of .ensures)
-
 pub coe-read-i32-spec : {M : Type 1} → statement M
-coe-read-i32-spec = tie.close (tie.spec (λ c κs. tt) (λ c κs. tt) returns)
+coe-read-i32-spec = tie.close (tie.spec (λ c κs. tt) (λ c κs. tt)
+    (λ c. rw (← c .before .read-i32 .ensures) (c .signed-of .ensures)))

@@ -2,8 +2,6 @@
 use Rattle.linked.proofs.reading.coe_read_u16.Statement.{statement}
 use Rattle.linked.proofs.reading.coe_read_u16.Tie as tie
 
-returns : tie.Need-returns
-returns c = rw (← c .before .read-u16 .ensures) (c .unsigned-of .ensures)
-
 pub coe-read-u16-spec : {M : Type 1} → statement M
-coe-read-u16-spec = tie.close (tie.spec (λ c κs. tt) (λ c κs. tt) returns)
+coe-read-u16-spec = tie.close (tie.spec (λ c κs. tt) (λ c κs. tt)
+    (λ c. rw (← c .before .read-u16 .ensures) (c .unsigned-of .ensures)))

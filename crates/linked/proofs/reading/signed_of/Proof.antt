@@ -5,11 +5,7 @@ use borrow.Author.Needs.{needs}
 use Rattle.linked.proofs.reading.signed_of.Statement.{statement}
 use Rattle.linked.proofs.reading.signed_of.Tie as tie
 
-returns : tie.Need-returns
-returns c = rw (c .before .read .given .1, stored w32 _ (c .known-told .given .0 .1))
-
-returns-2 : tie.Need-returns-2
-returns-2 c = rw (c .before .read2 .given .1)
-
 pub signed-of-spec : {M : Type 1} → statement M
-signed-of-spec = tie.close (tie.spec (λ c. search needs) (λ c. search needs) returns returns-2)
+signed-of-spec = tie.close (tie.spec (λ c. search needs) (λ c. search needs)
+    (λ c. rw (c .before .read .given .1, stored w32 _ (c .known-told .given .0 .1)))
+    (λ c. rw (c .before .read2 .given .1)))

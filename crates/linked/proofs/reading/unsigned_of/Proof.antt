@@ -3,11 +3,7 @@ use borrow.Author.Needs.{needs}
 use Rattle.linked.proofs.reading.unsigned_of.Statement.{statement}
 use Rattle.linked.proofs.reading.unsigned_of.Tie as tie
 
-returns : tie.Need-returns
-returns c = rw (c .before .read .given .1)
-
-returns-2 : tie.Need-returns-2
-returns-2 c = rw (c .before .read2 .given .1)
-
 pub unsigned-of-spec : {M : Type 1} → statement M
-unsigned-of-spec = tie.close (tie.spec (λ c. search needs) (λ c. search needs) returns returns-2)
+unsigned-of-spec = tie.close (tie.spec (λ c. search needs) (λ c. search needs)
+    (λ c. rw (c .before .read .given .1))
+    (λ c. rw (c .before .read2 .given .1)))
