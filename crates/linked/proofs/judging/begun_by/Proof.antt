@@ -1,6 +1,6 @@
 -- `linked::judging::begun_by` meets its contract: the test picks the case.
+use Rattle.wire.proofs.Tests.{tests}
 use Rattle.linked.specs.Judging.{begunBy}
-use Rattle.linked.proofs.Tests.{tests}
 use Rattle.linked.proofs.judging.begun_by.Statement.{statement}
 use Rattle.linked.proofs.judging.begun_by.Tie as tie
 

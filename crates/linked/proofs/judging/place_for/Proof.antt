@@ -1,6 +1,6 @@
 -- `linked::judging::place_for` meets its contract: its tests are the definition's, in their order.
+use Rattle.wire.proofs.Tests.{tests}
 use Rattle.linked.specs.Judging.{placeFor}
-use Rattle.linked.proofs.Tests.{tests}
 use Rattle.linked.proofs.judging.place_for.Statement.{statement}
 use Rattle.linked.proofs.judging.place_for.Tie as tie
 
