@@ -1,4 +1,5 @@
--- What the four calls that change the desk share: each copies the desk out, asks by value what changes, and has `apply` change it.
+-- What the four calls that change the desk share: each copies the desk out, asks by value what changes, and has `apply` change
+-- it.
 --     Lending, lending     what such a call has besides the desk, and what is said; and from its signature
 --     Entry, Ends          what it has at first, as its contract asks it, and what it owes at last
 --     copies               the desk's borrow is opened, the desk is copied, and the borrow is closed

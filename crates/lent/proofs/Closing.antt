@@ -1,7 +1,8 @@
 -- How a walk of a function's MIR becomes the function's theorem, and the steps that walks over lent memory share.
 --     Param R, Params Rs     what a walk asks of a parameter's type: how a value is spelled in machine values, that its relation
 --                            tells so, and that it has its MIR type.        number, lent, slice, lent-slice     of the types here
---     Blocks ls, places      where the locals ls lie.        held     their cells, with these values in the first of them, and room
+--     Blocks ls, places      where the locals ls lie.        held     their cells, with these values in the first of them, and
+-- room
 --                            in the others.        begun     the same where the first local, the result, is still to be written
 --     leaves                 the result is stored and returned, and all locals are freed.        freed     the last alone
 --     here, relends          an operand that is a local; a `&mut [u8]` that is lent on
@@ -216,14 +217,16 @@ module _ {M : Type 1} {𝓤 : URA M} {H : Heap 𝓤} {A : Atoms 𝓤} {K : Type 
   retold t Δ {Γ} {Γ′} {G} e = step (λ s. subst (λ (Θ : List (Item 𝓤)). Seq K W (Δ ++ Θ) G) (sym e) s)
 
   -- the locals are freed: Δ and Γ are what stands before and after their cells
-  freed-one : K → (Δ : List (Item 𝓤)) (ls : List Local) (bs : Blocks ls) (vs : List (Option Val)) {τ : Ty} {b : ℕ} (Γ : List (Item 𝓤))
+  freed-one : K → (Δ : List (Item 𝓤)) (ls : List Local) (bs : Blocks ls) (vs : List (Option Val)) {τ : Ty} {b : ℕ}
+      (Γ : List (Item 𝓤))
       {G : Goal 𝓤 H} → Step K W (Δ ++ held ls bs vs Γ) (frees (places H ls bs) G)
       (‵ (froom τ b 0) ∷ (Δ ++ held ls bs vs (‵ (fdies τ b) ∷ Γ))) (frees ((τ, b) ∷ places H ls bs) G)
   freed-one t Δ ls bs vs {τ} {b} Γ = step (λ s.
       fetched t (suc (under Δ (deep ls 0))) (nth-low 𝓤 H A Δ ls bs vs _ _)
       (ap (λ (Θ : List (Item 𝓤)). ‵ (froom τ b 0) ∷ Θ) (del-low 𝓤 H A Δ ls bs vs _ _)) $ move t (1 ∷ 0 ∷ []) $ free1 t $ s)
 
-  pub freed : K → (Δ : List (Item 𝓤)) (ls : List Local) (bs : Blocks ls) (vs : List (Option Val)) (Γ : List (Item 𝓤)) {G : Goal 𝓤 H}
+  pub freed : K → (Δ : List (Item 𝓤)) (ls : List Local) (bs : Blocks ls) (vs : List (Option Val))
+      (Γ : List (Item 𝓤)) {G : Goal 𝓤 H}
       → Step K W (Δ ++ Γ) G (Δ ++ held ls bs vs Γ) (frees (places H ls bs) G)
   freed t Δ [] bs vs Γ = free0 t
   freed t Δ (local τ h ∷ ls) bs [] Γ = step (λ s.
@@ -339,7 +342,8 @@ module _ {M : Type 1} (𝓤 : URA M) (H : Heap 𝓤) (A : Atoms 𝓤) (S : Signa
 
     -- and it is the function's own answer, where each local but the result holds a value
     pub returned : K → {C : Calls 𝓤 H} {Λ : Loops 𝓤 H} {f : Name} {xs : List Operand} {Kf : Val → SProp 𝓤} → FmC 𝓤 H (W .laws) C
-        → Triple 𝓤 (C f) (tripleOf 𝓤 H A S c) → Lawful 𝓤 H A R → (ls : List Local) (bs : Blocks ls) (vs : List Val) → First (R .mir) ls
+        → Triple 𝓤 (C f) (tripleOf 𝓤 H A S c) → Lawful 𝓤 H A R → (ls : List Local) (bs : Blocks ls) (vs : List Val)
+        → First (R .mir) ls
         → Opds K W (raw (tripleOf 𝓤 H A S c .pre y) ∷ begun ls bs vs) (places H ls bs) xs (tripleOf 𝓤 H A S c .args y)
         → ((v : Val) → ent 𝓤 (tripleOf 𝓤 H A S c .post y v) (Kf v))
         → Seq K W (raw (tripleOf 𝓤 H A S c .pre y) ∷ begun ls bs vs)

@@ -1,4 +1,5 @@
--- `lent::apply` meets its contract: a walk of its MIR. The desk's borrow is opened, the change is made slot by slot in the desk's cell, and
+-- `lent::apply` meets its contract: a walk of its MIR. The desk's borrow is opened, the change is made slot by slot in the desk's
+-- cell, and
 -- the borrow is closed at the desk that is then there.
 -- Assumes nothing.
 use mathlib.Core.Path.{_≡_, refl, sym, ap, _∙_, subst}
@@ -17,16 +18,16 @@ use lib.WfN.{Nat·lt-wfRel}
 use mir.Syntax.{Body as Block, skip, seq, assign, block, loop, cond, switch, exit, return, call, named, w64}
 use mir.Table.{spell}
 use mir.Val.{Val, vint, vptr, vbool, hasTy, WT}
-use base.Logic.{SProp, ent, id⊢, sep, ex}
-use base.Fml.{Lft, Share, ftrue, fsep, fres, flft, fobs, fauth, fbor, fobor, fat}
+use base.Logic.{SProp, ent, id⊢}
+use base.Fml.{Lft, Share, ftrue, fsep, flft, fobs, fauth, fbor, fobor, fat}
 use prog.Wp.{Heap, Env, Out, Wp, Tables, afterSeq, afterBlock, afterTurn, atReturn}
-use ghost.Atoms.{Atoms, sem}
+use ghost.Atoms.{Atoms}
 use contract.Monad.{fact}
 use contract.Running.{givenOf, tables, tablesOf}
-use types.Kit.{keep, mean, raw, use1, updating, now as at-once, show, Given, Item, ‵, _⊛_, ⋆, _$_, _∵_, !, qed, by, move, drop, split, join}
-use types.Kit.{rewrite, runs, anyQ, atRet, Sq, fsplit, fsplit3, fjoin, frame, done}
-use types.Run.{look, init, store, forget, stop, hop, fld, from, load, lit, bin, addr, of-opd, assigns, assigns-last, returns, returns-within}
-use types.Run.{first, skips, jumps, blocks, branches, exec, again, loops, Below}
+use types.Kit.{keep, raw, use1, Given, Item, ‵, _⊛_, ⋆, _$_, _∵_, !, qed, by, move, drop, split, rewrite, runs, anyQ, atRet, Sq}
+use types.Kit.{fsplit, fsplit3, fjoin}
+use types.Run.{look, init, store, forget, stop, hop, fld, from, load, lit, bin, addr, of-opd, assigns, assigns-last, returns}
+use types.Run.{returns-within, first, skips, jumps, blocks, branches, exec, again, loops, Below}
 use types.Part.{whole, sub, look-in, store-in}
 use types.SemTy.{Body}
 use denote.RattleType.{owns}
@@ -35,14 +36,12 @@ use denote.Memory.{mem}
 use denote.Ref.{RefT, MutRef, ptr-vals}
 use denote.Steps.{owned, nothing, heard}
 use denote.Struct.Laws as LL
-use denote.Triple.Walked.{says}
 use Rattle.desk.specs.Record.{blankOf}
 use Rattle.wire.specs.Words.{pick as choose}
 use Rattle.desk.specs.Change.{Within, moved, otherwise, calledBy}
 use Rattle.desk.specs.declared.record.Slot.{Slot}
 use Rattle.desk.specs.declared.change.Change.{Change}
 use Rattle.desk.specs.declared.Desk.{Desk}
-use Rattle.judge.specs.declared.Answer.{Answer}
 use Rattle.desk.proofs.Moved.{moved-none, moved-more, length-moved}
 use Rattle.desk.proofs.Desk as T
 use Rattle.desk.proofs.Desk.Laws as T′
@@ -54,13 +53,15 @@ use Rattle.judge.proofs.Answer.Laws as E′
 use Rattle.lent.specs.Found.{found}
 use Rattle.lent.proofs.Typed.{SlotIs, ChangeIs, Parts, Held, parts-of, typed-by, held-by, all-get, all-set, all-moved}
 use Rattle.lent.proofs.Closing.{Param, Blocks, places, held, begun, freed, lent, closed}
-use Rattle.lent.proofs.Lent.{slot-typed, answer-typed, desk-opens, desk-closes, lined, slot-in, slot-read, slot-put}
+use Rattle.lent.proofs.Lent.{Owed, keeps, slot-typed, answer-typed, desk-opens, desk-closes, lined, slot-in, slot-read}
+use Rattle.lent.proofs.Lent.{slot-put}
 use Rattle.lent.proofs.apply.Key.{name as #self}
 use Rattle.lent.proofs.apply as f
 use Rattle.lent.proofs.apply.Statement as stated
 use Rattle.lent.proofs.apply.Code as code
 
--- the parts of the body: what runs once the record is not kept, a turn of the loop, what it does once it goes on, what runs after the loop
+-- the parts of the body: what runs once the record is not kept, a turn of the loop, what it does once it goes on, what runs after
+-- the loop
 abbrev parts : Block → Block × Block
 parts skip = (skip, skip)
 parts (seq a b) = (a, b)
@@ -122,27 +123,18 @@ module _ {M : Type 1} (𝓤 : URA M) (H : Heap 𝓤) (A : Atoms 𝓤) (W : Given
   made : Holds (not (c .kept)) → Said changed
   made k = ap (λ (y : Bool). found (c .answer) (choose y h changed)) (sym (is-false (c .kept) k))
 
-  -- what is owed at the end
-  abbrev Left : Answer → Desk × (Unit {0} × Unit {0}) → SProp 𝓤
-  Left r ws = sep 𝓤 (sem 𝓤 H A (fsep (fres (desk′ .name) (T.the-row .coded .code (ws .0))) (fsep ftrue ftrue)))
-      (fact 𝓤 (found r (ws .0) ≡ calledBy c h))
-
-  abbrev Ends : Val → Answer → SProp 𝓤
-  Ends v r = sep 𝓤 (sep 𝓤 (mean 𝓤 H A (‵ (flft κ q) ⊛ ‵ ftrue)) (sem 𝓤 H A (E.the-row .own r (v ∷ [])))) (ex 𝓤 (Left r))
-
   abbrev Post : Val → SProp 𝓤
-  Post v = H .⇛ (ex 𝓤 (Ends v))
+  Post = Owed 𝓤 H A κ q (desk′ .name) E.the-row {X = Unit {0} × Unit {0}} (λ _. fsep ftrue ftrue)
+      (λ r d. found r d ≡ calledBy c h)
 
   exits : (d : Desk) → Said d → ent 𝓤 (⋆ 𝓤 H A (‵ (fobs (desk′ .name) (T.the-row .coded .code d)) ∷ ‵
       (fbor κ (Body (mem T.the-row) b o (desk′ .name))) ∷ ‵ (flft κ q) ∷ [])) (Post (E′.lowered (c .answer)))
   exits d e =
       qed W (‵ (fobs (desk′ .name) (T.the-row .coded .code d)) ∷ ‵ (fbor κ (Body (mem T.the-row) b o (desk′ .name))) ∷ ‵
-      (flft κ q) ∷ []) ∵ keep ! (0 ∷ 2 ∷ []) $ updating ! $ at-once ! $ show ! (Ends (E′.lowered (c .answer))) (c .answer) $
-      use1 W (‵ (fres (desk′ .name) (T.the-row .coded .code d))) (W .names .obs-res (desk′ .name) (T.the-row .coded .code d)) $
-      nothing ! $ move ! (2 ∷ 0 ∷ []) $ join ! $
+      (flft κ q) ∷ []) ∵ keep ! (0 ∷ 2 ∷ []) $
       owned ! E.the-row (Is E.the-row) (LL.makes E.the-type E′.the-plain 𝓤 H A) (c .answer) _ (carried .answer) $
-      move ! (1 ∷ 0 ∷ []) $ join ! $ frame ! $ show ! (Left (c .answer)) (d, (tt, tt)) $ says ! e $
-      nothing ! $ nothing ! $ fjoin ! $ move ! (1 ∷ 0 ∷ []) $ fjoin ! $ done !
+      nothing ! $ nothing ! $ fjoin ! $ by ! (keeps 𝓤 H A κ q (desk′ .name) E.the-row (λ _. fsep ftrue ftrue)
+      (λ r d. found r d ≡ calledBy c h) W (c .answer) (E′.lowered (c .answer)) d (tt, tt) e)
 
   -- ---- the desk at the start of a turn
 
@@ -197,7 +189,8 @@ module _ {M : Type 1} (𝓤 : URA M) (H : Heap 𝓤) (A : Atoms 𝓤) (W : Given
     moved-up i less = rw add-one (moved-more (h .line) (c .first) (i .0) blankOf (i .1) (omega (arith, room i less, p .eight)))
 
     stepped : (i : Upto) → Holds (ltb (i .0) (c .last))
-        → lined (turned (i .0)) (set (map S′.lowered (turned (i .0) .line)) (i .0) (S′.lowered (behind i))) ≡ T′.lowered (turned (i .0 + 1))
+        → lined (turned (i .0)) (set (map S′.lowered (turned (i .0) .line)) (i .0) (S′.lowered (behind i))) ≡ T′.lowered
+        (turned (i .0 + 1))
     stepped i less =
         slot-put (turned (i .0)) (i .0) (behind i)
         ∙ ap (λ (l : List Slot). lined h (map S′.lowered l)) (moved-up i less)
@@ -249,7 +242,8 @@ module _ {M : Type 1} (𝓤 : URA M) (H : Heap 𝓤) (A : Atoms 𝓤) (W : Given
         (look-in ! 0 (slot-in ! (turned (i .0)) b o (i .0 + 1) (omega (arith, room i less)) (turned-parts p (i .0) .eight)))))
         (from ! (stop !)) (init ! 14 refl (subst (λ (v : Val). Holds (hasTy S′.mir v) × WT v)
         (sym (slot-read (turned (i .0) .line) (i .0 + 1))) (slot-typed 𝓤 H A W (behind i) (behind-is p i less)))) $
-        rewrite ! 14 (λ (u : Val). ‵ (fat fullShare S′.mir (bs .1 .1 .1 .1 .1 .1 .1 .1 .1 .1 .1 .1 .1 .1 .0) 0 u)) (slot-read (turned (i .0) .line) (i .0 + 1)) refl $
+        rewrite ! 14 (λ (u : Val). ‵ (fat fullShare S′.mir (bs .1 .1 .1 .1 .1 .1 .1 .1 .1 .1 .1 .1 .1 .1 .0) 0 u))
+        (slot-read (turned (i .0) .line) (i .0 + 1)) refl $
         assigns ! (of-opd ! (load ! (from ! (stop !)) (look ! 14 refl))) (from ! (stop !))
         (init ! 32 refl (slot-typed 𝓤 H A W (behind i) (behind-is p i less))) $
         assigns ! (bin ! (load ! (from ! (stop !)) (look ! 34 refl)) (lit ! tt) (record { fits = omega (arith, room i less) }))
@@ -261,9 +255,11 @@ module _ {M : Type 1} (𝓤 : URA M) (H : Heap 𝓤) (A : Atoms 𝓤) (W : Given
         (store-in ! 0 (slot-in ! (turned (i .0)) b o (i .0) (omega (arith, room i less)) (turned-parts p (i .0) .eight))
         (slot-typed 𝓤 H A W (behind i) (behind-is p i less))) $
         rewrite ! 0 (λ (u : Val). ‵ (fat fullShare T′.mir b o u)) (stepped p i less) refl $
-        assigns-last ! (bin ! (load ! (from ! (stop !)) (look ! 34 refl)) (lit ! tt) (record { fits = omega (arith, room i less) }))
+        assigns-last ! (bin ! (load ! (from ! (stop !)) (look ! 34 refl)) (lit ! tt)
+        (record { fits = omega (arith, room i less) }))
         (from ! (stop !)) (store ! 34 refl (tt, record { fits = omega (arith, room i less) })) $
-        forget ! 32 refl $ forget ! 24 refl $ forget ! 22 refl $ forget ! 20 refl $ forget ! 18 refl $ forget ! 16 refl $ forget ! 14
+        forget ! 32 refl $ forget ! 24 refl $ forget ! 22 refl $ forget ! 20 refl $ forget ! 18 refl $ forget ! 16 refl $
+        forget ! 14
         refl $ forget ! 12 refl $ forget ! 10 refl $
         again ! Nearer (At bs) i (next i less) (omega (arith, ltb→lt (i .0) (c .last) less)))
         (λ over. jumps ! $ exec ! (𝓣 .C) (𝓣 .Λ) (En bs) rest
@@ -275,7 +271,8 @@ module _ {M : Type 1} (𝓤 : URA M) (H : Heap 𝓤) (A : Atoms 𝓤) (W : Given
         assigns ! (bin ! (load ! (from ! (stop !)) (look ! 30 refl)) (lit ! tt) (record { fits = omega (arith, within .lies) }))
         (from ! (stop !)) (init ! 8 refl (tt, record { fits = omega (arith, within .lies) })) $
         assigns ! (addr ! (from ! (hop ! (look ! 40 refl) (fld ! refl (stop !))))) (from ! (stop !)) (init ! 6 refl (tt, tt)) $
-        assigns ! (bin ! (load ! (from ! (stop !)) (look ! 6 refl)) (load ! (from ! (stop !)) (look ! 8 refl)) tt) (from ! (stop !))
+        assigns ! (bin ! (load ! (from ! (stop !)) (look ! 6 refl)) (load ! (from ! (stop !)) (look ! 8 refl)) tt)
+        (from ! (stop !))
         (init ! 4 refl (tt, tt)) $
         assigns ! (of-opd ! (load ! (from ! (stop !)) (look ! 28 refl))) (from ! (hop ! (look ! 4 refl) (stop !)))
         (store-in ! 0 (slot-in ! (turned (i .0)) b o (c .at) (within .lies) (turned-parts p (i .0) .eight))
@@ -291,8 +288,10 @@ module _ {M : Type 1} (𝓤 : URA M) (H : Heap 𝓤) (A : Atoms 𝓤) (W : Given
         assigns ! (of-opd ! (load ! (from ! (fld ! refl (stop !))) (look-in ! 38 (sub ! 0 refl (whole !))))) (from ! (stop !))
         (init ! 42 refl (answer-typed 𝓤 H A W (c .answer) _ (carried .answer))) $
         desk-closes ! tt changed b o (typed-by changed (changed-parts p)) $
-        returns ! (look ! 41 refl) $ freed ! (_ ∷ _ ∷ _ ∷ []) (code.function .locals) bs (just _ ∷ just _ ∷ just _ ∷ just _ ∷ just _ ∷
-        none ∷ just _ ∷ just _ ∷ just _ ∷ just _ ∷ none ∷ none ∷ none ∷ none ∷ none ∷ none ∷ none ∷ just _ ∷ just _ ∷ just _ ∷ []) [] $
+        returns ! (look ! 41 refl) $ freed ! (_ ∷ _ ∷ _ ∷ []) (code.function .locals) bs
+        (just _ ∷ just _ ∷ just _ ∷ just _ ∷ just _ ∷
+        none ∷ just _ ∷ just _ ∷ just _ ∷ just _ ∷ none ∷ none ∷ none ∷ none ∷ none ∷ none ∷ none ∷ just _ ∷ just _ ∷ just _ ∷ [])
+        [] $
         by ! (exits changed (made not-kept)))
 
   module _ (bs : Blocks (code.function .locals)) (𝓣 : Tables 𝓤 H) where
@@ -322,7 +321,11 @@ pub apply-spec : {M : Type 1} → stated.statement M
 unfolding code.routine tablesOf
 apply-spec 𝓤 H 𝓜 𝓖 𝓡 =
     let W = givenOf 𝓤 H 𝓜 𝓖 in
-    let of-change : Param 𝓤 H (𝓖 .A) C.the-row = record { spell = λ c. C′.lowered c ∷ []; tells = C′.lowers .val-is; lawful = LL.lawful C.the-type C′.the-laws 𝓤 H (𝓖 .A) W } in
+    let of-change : Param 𝓤 H (𝓖 .A) C.the-row = record {
+      spell = λ c. C′.lowered c ∷ [];
+      tells = C′.lowers .val-is;
+      lawful = LL.lawful C.the-type C′.the-laws 𝓤 H (𝓖 .A) W;
+    } in
     closed 𝓤 H 𝓜 𝓖 𝓡 code.env #self code.function f.signature (f.spec 𝓤 H) (λ κs. (lent W 0 (κs .0) T.the-row, (of-change, tt)))
     (code.unfolded 𝓤 H 𝓜 𝓡) (λ κs. refl) (λ fm κs qs ok a g bs are.
     use1 W (((‵ (flft (κs .0) (qs .0)) ⊛ ‵ ftrue) ⊛ ‵ (owns (MutRef (named 0) (κs .0) T.the-row ∷ C.the-row ∷ []) a

@@ -3,6 +3,7 @@
 -- lifetime. The two contracts are one, so what is had at first is what `lent::fresh` asks, and what it gives is what is owed.
 -- Assumes nothing.
 use mathlib.Core.Path.{refl, ap, subst}
+use mathlib.Core.Option.{some as just}
 use mathlib.Core.List.{[], _∷_}
 use mir.Val.{Val}
 use base.Logic.{ent, id⊢}
@@ -35,5 +36,5 @@ coe-desk-fresh-spec 𝓤 H 𝓜 𝓖 𝓡 =
     answered 𝓤 H (𝓖 .A) f.signature c y ! tt v (λ r is.
     land ! (from ! (stop !)) (init ! 3 refl (nothing-lawful 𝓤 H (𝓖 .A) W .typed r _ is .0)) $
     assigns ! (of-opd ! (unit-lit !)) (from ! (stop !)) (init ! 7 refl (tt, tt)) $ returns ! (look ! 7 refl) $
-    freed ! (_ ∷ []) (code.function .locals) bs (_ ∷ _ ∷ _ ∷ _ ∷ []) [] $
+    freed ! (_ ∷ []) (code.function .locals) bs (just _ ∷ just _ ∷ just _ ∷ just _ ∷ []) [] $
     by ! (subst (λ (u : Val). ent 𝓤 (P .post y v) (P .post y u)) (ap only (nothing-tells r _ is)) (id⊢ 𝓤 _)))))
