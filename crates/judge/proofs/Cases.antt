@@ -18,7 +18,7 @@ use Rattle.judge.specs.Places.{emergencyLeast, abortLeast, downloadLeast
 use Rattle.judge.specs.Headers.{readHeaders, readSegmentHeaders, readInformationHeaders, wrongType, wrongAddress}
 use Rattle.judge.specs.Alarm.{emergencyIn, abortIn, alarmIn, unlessAlarm}
 use Rattle.judge.specs.Chunk.{lacking, chunkAt, onChunk}
-use Rattle.judge.specs.Reply.{onHeaders, replyTo}
+use Rattle.judge.specs.Reply.{onHeaders, inOrder, replyTo}
 use Rattle.judge.specs.Download.{downloadOf, judgeDownload}
 use Rattle.judge.specs.Upload.{expeditedOf, wholeOf, dOf, normalOf, uploadOf, judgeUpload}
 use Rattle.judge.specs.Segment.{chunkLength, segmentOf, onSegmentHeaders, judgeSegment}
@@ -83,7 +83,7 @@ module _ (P : Verdict → Type 0) where
   headers-cases (HeadersRead.Headers h) f p q = q h
 
   reply-cases : (index sub : ℕ) (s : List ℕ) (f : Headers → Verdict) → Alarming P → ((h : Headers) → P (f h)) → P (replyTo index sub s f)
-  unfolding replyTo
+  unfolding replyTo inOrder
   reply-cases index sub s f a p =
       headers-cases (readHeaders s) _ (a .refused) λ h.
       alarm-cases s (h .service) (h .sdo .command) _ a (either-way (wrongAddress h index sub) _ _ (a .other) (p h))
@@ -151,7 +151,7 @@ module _ (P : Verdict → Type 0) where
     pub segment-cases : Alarming P
         → ((from len : ℕ) (last : Bool) → len ≤ length s - from → earlier + len ≤ n → P (Segment from len (earlier + len) last))
         → P (judgeSegment earlier n s)
-    unfolding judgeSegment
+    unfolding judgeSegment inOrder
     segment-cases a p =
         segment-headers (readSegmentHeaders s) _ (a .refused) λ h.
         alarm-cases s (h .service) (h .segment .command) _ a (either-way (wrongType (h .mailbox)) _ _ (a .other) (segment-rule h p))

@@ -1,4 +1,5 @@
 pub mod Laid
 pub mod Cases
+pub mod InOrder
 pub mod Payload
 pub mod Numbers

@@ -18,7 +18,7 @@ onHeaders HeadersRead.Undecodable f = Refused 0x20
 onHeaders (HeadersRead.Headers h) f = f h
 
 -- behind the headers an alarm; then "Type not 3, or .. index or sub-index not the request's: 23"; and else what the kind's own rule says
-abbrev pub inOrder : Alarm → Bool → Verdict → Verdict
+unfoldable pub inOrder : Alarm → Bool → Verdict → Verdict
 inOrder alarm wrong own = unlessAlarm alarm (pick wrong (Refused 0x23) own)
 
 unfoldable pub replyTo : ℕ → ℕ → List ℕ → (Headers → Verdict) → Verdict

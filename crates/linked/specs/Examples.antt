@@ -11,7 +11,7 @@ use Rattle.judge.specs.Answers.{plainOf, doneWith, answerOf}
 use Rattle.judge.specs.Headers.{readHeaders, readSegmentHeaders, readInformationHeaders, wrongType, wrongAddress}
 use Rattle.judge.specs.Alarm.{emergencyIn, abortIn, alarmIn}
 use Rattle.judge.specs.Chunk.{lacking, chunkAt}
-use Rattle.judge.specs.Reply.{replyTo}
+use Rattle.judge.specs.Reply.{inOrder, replyTo}
 use Rattle.judge.specs.Download.{downloadOf, judgeDownload}
 use Rattle.judge.specs.Upload.{expeditedOf, wholeOf, normalOf, uploadOf, judgeUpload}
 use Rattle.judge.specs.Segment.{chunkLength, segmentOf, judgeSegment}
@@ -46,5 +46,5 @@ examples =
     ∷ []
 
 pub examples-hold : map (λ (e : Shown × Shown). e .0) examples ≡ map (λ (e : Shown × Shown). e .1) examples
-unfolding read priorityOf typeOf serviceOf commandOf operationOf readMailboxHeader readCoeHeader readSdoHeader readSegmented readSdoInfo answerOf readHeaders readSegmentHeaders readInformationHeaders wrongType wrongAddress emergencyIn abortIn alarmIn lacking chunkAt replyTo downloadOf judgeDownload expeditedOf wholeOf normalOf uploadOf judgeUpload chunkLength segmentOf judgeSegment fragmentAt fragmentOf judgeList stored unjudged verdictFor placeFor begunBy toldOf rulingFor
+unfolding read priorityOf typeOf serviceOf commandOf operationOf readMailboxHeader readCoeHeader readSdoHeader readSegmented readSdoInfo answerOf readHeaders readSegmentHeaders readInformationHeaders wrongType wrongAddress emergencyIn abortIn alarmIn lacking chunkAt inOrder replyTo downloadOf judgeDownload expeditedOf wholeOf normalOf uploadOf judgeUpload chunkLength segmentOf judgeSegment fragmentAt fragmentOf judgeList stored unjudged verdictFor placeFor begunBy toldOf rulingFor
 examples-hold = refl

@@ -12,7 +12,7 @@ use Rattle.judge.specs.Answers.{answerOf}
 use Rattle.judge.specs.Headers.{readHeaders, readSegmentHeaders, readInformationHeaders, wrongType, wrongAddress}
 use Rattle.judge.specs.Alarm.{emergencyIn, abortIn, alarmIn}
 use Rattle.judge.specs.Chunk.{lacking, chunkAt}
-use Rattle.judge.specs.Reply.{replyTo}
+use Rattle.judge.specs.Reply.{inOrder, replyTo}
 use Rattle.judge.specs.Download.{downloadOf, judgeDownload}
 use Rattle.judge.specs.Upload.{expeditedOf, wholeOf, normalOf, uploadOf, judgeUpload}
 use Rattle.judge.specs.Segment.{chunkLength, segmentOf, judgeSegment}
@@ -63,7 +63,7 @@ record Facts : Type 0 where
   invents : SumsAndBudget inventor → ⊥
 
 facts : Facts
-unfolding trace step judge line.settled andThen seated find headed head vacate place viewOf deskOf answerFor lentAfter lentBy beginsWith unfitOf kindOf outside sendsWith receivesWith judged judgedAs budget.budgeted nextOf dueOf requestDue awaitingOf firstRequest firstReply judgeReply packedOf packed cutTo read priorityOf typeOf serviceOf commandOf operationOf readMailboxHeader readCoeHeader readSdoHeader readSegmented readSdoInfo answerOf readHeaders readSegmentHeaders readInformationHeaders wrongType wrongAddress emergencyIn abortIn alarmIn lacking chunkAt replyTo downloadOf judgeDownload expeditedOf wholeOf normalOf uploadOf judgeUpload chunkLength segmentOf judgeSegment fragmentAt fragmentOf judgeList stored inFront keep someOf calls after seatOf isEnter isSend own transfers sentFrame listed oneByOne requestAt asked replyAt verdictOf dueAfter moved SumsOn Sums changed
+unfolding trace step judge line.settled andThen seated find headed head vacate place viewOf deskOf answerFor lentAfter lentBy beginsWith unfitOf kindOf outside sendsWith receivesWith judged judgedAs budget.budgeted nextOf dueOf requestDue awaitingOf firstRequest firstReply judgeReply packedOf packed cutTo read priorityOf typeOf serviceOf commandOf operationOf readMailboxHeader readCoeHeader readSdoHeader readSegmented readSdoInfo answerOf readHeaders readSegmentHeaders readInformationHeaders wrongType wrongAddress emergencyIn abortIn alarmIn lacking chunkAt inOrder replyTo downloadOf judgeDownload expeditedOf wholeOf normalOf uploadOf judgeUpload chunkLength segmentOf judgeSegment fragmentAt fragmentOf judgeList stored inFront keep someOf calls after seatOf isEnter isSend own transfers sentFrame listed oneByOne requestAt asked replyAt verdictOf dueAfter moved SumsOn Sums changed
 facts = record {
   holds = refl;
   pretends = λ D. let z : _≡_ {A = ℕ} 8 4 = ap lengths (D two) in omega arith;

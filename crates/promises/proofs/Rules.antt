@@ -22,7 +22,7 @@ use Rattle.judge.specs.Answers.{answerOf}
 use Rattle.judge.specs.Headers.{wrongType, wrongAddress}
 use Rattle.judge.specs.Alarm.{emergencyIn, abortIn, alarmIn, unlessAlarm}
 use Rattle.judge.specs.Chunk.{lacking, chunkAt, onChunk}
-use Rattle.judge.specs.Reply.{replyTo}
+use Rattle.judge.specs.Reply.{inOrder, replyTo}
 use Rattle.judge.specs.Download.{downloadOf, judgeDownload}
 use Rattle.judge.specs.Upload.{expeditedOf, wholeOf, normalOf, uploadOf, judgeUpload}
 use Rattle.judge.specs.Segment.{chunkLength, segmentOf, judgeSegment}
@@ -99,7 +99,7 @@ module _ (s : List ℕ) where
     reply-told : ((t : MailboxType) (v : CoeService) (k : CoeCommand)
         → Tells s (sdoBy s f (ListedType.Listed t) (ListedService.Listed v) (ListedCommand.Listed k)) (firstOf kind))
         → Tells s (replyTo i b s f) (firstOf (sdo s ++ addressed i b s ++ kind))
-    unfolding firstOf replyTo wrongAddress wrongType answerOf
+    unfolding firstOf inOrder replyTo wrongAddress wrongType answerOf
     reply-told p =
         rw (sdo-read s _)
         (decoded s (specifier-look (the specifier s)) (sdoBy s _) (λ b c. refl) (λ t c. refl) (λ t v. refl) λ t v k et ev ek.
@@ -143,7 +143,7 @@ module _ (s : List ℕ) where
   last-line place len sum false = refl
 
   segment-told : (earlier n : ℕ) → Tells s (judgeSegment earlier n s) (firstOf (sdo s ++ segment earlier n s))
-  unfolding firstOf judgeSegment wrongType segmentOf answerOf
+  unfolding firstOf inOrder judgeSegment wrongType segmentOf answerOf
   segment-told earlier n =
       rw (segment-read s _)
       (decoded s (specifier-look (the specifier s)) (segmentBy s _) (λ b c. refl) (λ t c. refl) (λ t v. refl) λ t v k et ev ek.
