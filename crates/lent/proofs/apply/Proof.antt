@@ -21,7 +21,7 @@ use mir.Val.{Val, vint, vptr, vbool, hasTy, WT}
 use base.Logic.{SProp, ent, id⊢}
 use base.Fml.{Lft, Share, ftrue, fsep, flft, fobs, fauth, fbor, fobor, fat}
 use prog.Wp.{Heap, Env, Out, Wp, Tables, afterSeq, afterBlock, afterTurn, atReturn}
-use ghost.Atoms.{Atoms}
+use ghost.Atoms.{Atoms, sem}
 use contract.Monad.{fact}
 use contract.Running.{givenOf, tables, tablesOf}
 use types.Kit.{keep, raw, use1, Given, Item, ‵, _⊛_, ⋆, _$_, _∵_, !, qed, by, move, drop, split, rewrite, runs, anyQ, atRet, Sq}
@@ -124,17 +124,18 @@ module _ {M : Type 1} (𝓤 : URA M) (H : Heap 𝓤) (A : Atoms 𝓤) (W : Given
   made k = ap (λ (y : Bool). found (c .answer) (choose y h changed)) (sym (is-false (c .kept) k))
 
   abbrev Post : Val → SProp 𝓤
-  Post = Owed 𝓤 H A κ q (desk′ .name) E.the-row {X = Unit {0} × Unit {0}} (λ _. fsep ftrue ftrue)
-      (λ r d. found r d ≡ calledBy c h)
+  Post = Owed 𝓤 H A κ q (desk′ .name) (sem 𝓤 H A ftrue) E.the-row {X = Unit {0} × Unit {0}} (λ _. fsep ftrue ftrue)
+      (λ r d _. found r d ≡ calledBy c h)
 
   exits : (d : Desk) → Said d → ent 𝓤 (⋆ 𝓤 H A (‵ (fobs (desk′ .name) (T.the-row .coded .code d)) ∷ ‵
       (fbor κ (Body (mem T.the-row) b o (desk′ .name))) ∷ ‵ (flft κ q) ∷ [])) (Post (E′.lowered (c .answer)))
   exits d e =
       qed W (‵ (fobs (desk′ .name) (T.the-row .coded .code d)) ∷ ‵ (fbor κ (Body (mem T.the-row) b o (desk′ .name))) ∷ ‵
-      (flft κ q) ∷ []) ∵ keep ! (0 ∷ 2 ∷ []) $
+      (flft κ q) ∷ []) ∵ nothing ! $ use1 W (raw (sem 𝓤 H A ftrue)) (id⊢ 𝓤 _) $ keep ! (1 ∷ 3 ∷ 0 ∷ []) $
+      nothing ! $ nothing ! $ fjoin ! $
       owned ! E.the-row (Is E.the-row) (LL.makes E.the-type E′.the-plain 𝓤 H A) (c .answer) _ (carried .answer) $
-      nothing ! $ nothing ! $ fjoin ! $ by ! (keeps 𝓤 H A κ q (desk′ .name) E.the-row (λ _. fsep ftrue ftrue)
-      (λ r d. found r d ≡ calledBy c h) W (c .answer) (E′.lowered (c .answer)) d (tt, tt) e)
+      keeps 𝓤 H A κ q (desk′ .name) (sem 𝓤 H A ftrue) E.the-row (λ _. fsep ftrue ftrue) (λ r d _. found r d ≡ calledBy c h) !
+      (c .answer) (E′.lowered (c .answer)) d (tt, tt) e
 
   -- ---- the desk at the start of a turn
 

@@ -10,9 +10,10 @@ use mir.Syntax.{named}
 use mir.Val.{Val, vunit}
 use base.Logic.{id⊢}
 use base.Fml.{ftrue, flft, fat}
+use ghost.Atoms.{sem}
 use contract.Monad.{fact}
 use contract.Running.{givenOf}
-use types.Kit.{‵, raw, _⊛_, some, later, _$_, !, by, move, keep, drop, use1, split, join, pick}
+use types.Kit.{‵, raw, _⊛_, some, later, _$_, !, move, keep, drop, use1, split, join, pick}
 use types.Kit.{rewrite, fsplit, fsplit3, feqI, await}
 use types.Run.{look, init, store, stop, hop, from, load, unit-lit, of-opd, no-more, assigns, land, returns}
 use denote.RattleType.{owns}
@@ -63,5 +64,7 @@ fresh-spec 𝓤 H 𝓜 𝓖 𝓡 =
     assigns ! (of-opd ! (unit-lit !)) (from ! (stop !)) (init ! 9 refl (tt, tt)) $
     desk-closes ! tt r (a .0 .ptr .0) (a .0 .ptr .1) (is-desk r _ is) $ returns ! (look ! 8 refl) $
     freed ! (_ ∷ _ ∷ _ ∷ _ ∷ []) (code.function .locals) bs (just _ ∷ just _ ∷ just _ ∷ []) [] $
-    keep ! (0 ∷ 2 ∷ []) $ feqI ! (List Val) (vunit ∷ []) (vunit ∷ []) refl $ nothing ! $
-    by ! (keeps 𝓤 H (𝓖 .A) (κs .0) (qs .0) (a .0 .name) Nothing (λ _. ftrue) (λ _ d. Fresh 1 d) W tt vunit r tt e))))))))
+    move ! (3 ∷ []) $ use1 W (raw (sem 𝓤 H (𝓖 .A) ftrue)) (id⊢ 𝓤 _) $ keep ! (1 ∷ 3 ∷ 0 ∷ []) $ nothing ! $
+    feqI ! (List Val) (vunit ∷ []) (vunit ∷ []) refl $
+    keeps 𝓤 H (𝓖 .A) (κs .0) (qs .0) (a .0 .name) (sem 𝓤 H (𝓖 .A) ftrue) Nothing (λ _. ftrue) (λ _ d _. Fresh 1 d) !
+    tt vunit r tt e)))))))
