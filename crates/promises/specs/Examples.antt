@@ -14,7 +14,7 @@ use Rattle.promises.specs.Runs.{runs}
 pub data Shown : Type 0 where
   frame : List ℕ → Shown
   reply : replies.Shown → Shown
-  read : value.Told → Shown
+  read : value.Valued → Shown
   run : List Told → Shown
 
 abbrev pub Example : Type 0
