@@ -1,9 +1,9 @@
--- What the four calls that change the desk share: each copies the desk out, asks by value what changes, and has `apply` change
--- it.
+-- What the four calls that change the desk share: each copies the desk out, asks by value what changes, and has `apply`
+-- change it.
 --     Lending, lending     what such a call has besides the desk, and what is said; and from its signature
 --     Entry, Exit          what it has at first, as its contract asks it, and what it owes at last
 --     copies               the desk's borrow is opened, the desk is copied, and the borrow is closed
---     Asked, Told          what the desk by value asks and gives.        changes     its call
+--     Asked, Answered          what the desk by value asks and gives.        changes     its call
 --     applies              the call of `apply`, from the desk's borrow and a change in hand
 --     finishes             the change is stored and made, and the answer returned
 -- Assumes `Given`.
@@ -137,8 +137,8 @@ module _ {M : Type 1} (𝓤 : URA M) (H : Heap 𝓤) (A : Atoms 𝓤) (l : Lendi
   abbrev Changed : Change → Unit {0} × l .Lasts → Item 𝓤
   Changed r ws = ‵ (fsep ftrue (l .left (ws .1))) ⊛ raw (fact 𝓤 (l .said r (ws .1)))
 
-  abbrev Told : Val → SProp 𝓤
-  Told u = mean 𝓤 H A (later (some (λ (r : Change). (raw (l .tokens) ⊛ ‵ (L.the-row .own r (u ∷ []))) ⊛ some (Changed r))))
+  abbrev Answered : Val → SProp 𝓤
+  Answered u = mean 𝓤 H A (later (some (λ (r : Change). (raw (l .tokens) ⊛ ‵ (L.the-row .own r (u ∷ []))) ⊛ some (Changed r))))
 
   abbrev Exit : Val → SProp 𝓤
   Exit = Owed 𝓤 H A (l .κ) (l .q) (l .desk .name) (l .tokens) E.the-row (l .left) (l .gives)
@@ -161,7 +161,7 @@ module _ {M : Type 1} (𝓤 : URA M) (H : Heap 𝓤) (A : Atoms 𝓤) (l : Lendi
   module _ {K : Type 0} {W : Given 𝓤 H A} {Γ : List (Item 𝓤)} {E₀ : Env 𝓤 H} {C : Calls 𝓤 H} {Λ : Loops 𝓤 H} {q₀ : Post 𝓤 H} {f :
       Name}
       {xs : List Operand} {d₀ : Place} {rest : Body} where
-    pub changes : K → FmC 𝓤 H (W .laws) C → (vs : List Val) → ent 𝓤 Asked (C f vs Told) → Good h → DeskIs h → Opds K W
+    pub changes : K → FmC 𝓤 H (W .laws) C → (vs : List Val) → ent 𝓤 Asked (C f vs Answered) → Good h → DeskIs h → Opds K W
         (raw Asked ∷ Γ) E₀ xs vs
         → ((r : Change) (x : l .Lasts) → l .said r x → ChangeIs r → Seq K W (raw (l .tokens) ∷ ‵ (l .left x) ∷ Γ)
         (lands C Λ E₀ d₀ (L′.lowered r) rest q₀))
@@ -169,7 +169,7 @@ module _ {M : Type 1} (𝓤 : URA M) (H : Heap 𝓤) (A : Atoms 𝓤) (l : Lendi
     changes t fm vs met made is os k =
         use2 W (raw Asked) (qed W (raw (l .tokens) ∷ ‵ (l .passed) ∷ []) ∵ says ! made $ frame ! $
         owned ! T.the-row (Is T.the-row) (LL.makes T.the-type T′.the-plain 𝓤 H A) h _ is $ fjoin ! $ done !) $
-        calls-from t fm (raw Asked) vs Told met os (λ u.
+        calls-from t fm (raw Asked) vs Answered met os (λ u.
         use1 W (later (some (λ (r : Change). (raw (l .tokens) ⊛ ‵ (L.the-row .own r (u ∷ []))) ⊛ some (Changed r)))) (id⊢ 𝓤 _) $
         await t tt $ pick t (λ r.
         split t $ move t (1 ∷ []) $ pick t (λ ws. split t $ move t (1 ∷ []) $ heard t (l .said r (ws .1)) (λ e. fsplit t $

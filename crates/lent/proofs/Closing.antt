@@ -1,9 +1,9 @@
 -- How a walk of a function's MIR becomes the function's theorem, and the steps that walks over lent memory share.
 --     Param R, Params Rs     what a walk asks of a parameter's type: how a value is spelled in machine values, that its relation
 --                            tells so, and that it has its MIR type.        number, lent, slice, lent-slice     of the types here
---     Blocks ls, places      where the locals ls lie.        held     their cells, with these values in the first of them, and
--- room
---                            in the others.        begun     the same where the first local, the result, is still to be written
+--     Blocks ls, places      where the locals ls lie
+--     held                   their cells, with these values in the first of them and room in the others
+--     begun                  the same where the first local, the result, is still to be written
 --     leaves                 the result is stored and returned, and all locals are freed.        freed     the last alone
 --     here, relends          an operand that is a local; a `&mut [u8]` that is lent on
 --     answered, returned     a call by its contract: the answer's relation; and where its answer is the function's own, the end

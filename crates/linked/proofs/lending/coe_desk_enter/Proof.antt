@@ -1,6 +1,6 @@
--- `linked::lending::coe_desk_enter` meets its contract: a walk of its MIR. Every reference is given to `lent::enter` for good, at
--- its own
--- lifetime, with the default budget: what that asks of the budget is had for nothing, and what it says of it is let go.
+-- `linked::lending::coe_desk_enter` meets its contract: a walk of its MIR. Every reference is given to `lent::enter` for
+-- good, at its own lifetime, with the default budget: what that asks of the budget is had for nothing, and what it says
+-- of it is let go.
 -- Assumes nothing.
 use mathlib.Core.Path.{refl}
 use mathlib.Core.List.{[], _∷_}

@@ -1,6 +1,6 @@
--- `linked::lending::coe_desk_fresh` meets its contract: a walk of its MIR. The reference is given to `lent::fresh` for good, at
--- its own
--- lifetime. The two contracts are one, so what is had at first is what `lent::fresh` asks, and what it gives is what is owed.
+-- `linked::lending::coe_desk_fresh` meets its contract: a walk of its MIR. The reference is given to `lent::fresh` for
+-- good, at its own lifetime. The two contracts are one, so what is had at first is what `lent::fresh` asks, and what it
+-- gives is what is owed.
 -- Assumes nothing.
 use mathlib.Core.Path.{refl, ap, subst}
 use mathlib.Core.Option.{some as just}
