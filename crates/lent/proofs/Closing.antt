@@ -1,9 +1,8 @@
 -- How a walk of a function's MIR becomes the function's theorem, and the steps that walks over lent memory share.
 --     Param R, Params Rs     what a walk asks of a parameter's type: how a value is spelled in machine values, that its relation
 --                            tells so, and that it has its MIR type.        number, lent, slice, lent-slice     of the types here
---     Blocks ls, places      where the locals ls lie
---     held                   their cells, with these values in the first of them and room in the others
---     begun                  the same where the first local, the result, is still to be written
+--     Blocks ls, places      where the locals ls lie.        held     their cells: of each its value, or room where it has none
+--                            begun     the same where the first local, the result, is still to be written
 --     leaves                 the result is stored and returned, and all locals are freed.        freed     the last alone
 --     here, relends          an operand that is a local; a `&mut [u8]` that is lent on
 --     answered, returned     a call by its contract: the answer's relation; and where its answer is the function's own, the end
@@ -216,15 +215,15 @@ module _ {M : Type 1} {𝓤 : URA M} {H : Heap 𝓤} {A : Atoms 𝓤} {K : Type 
   pub retold : K → (Δ : List (Item 𝓤)) {Γ Γ′ : List (Item 𝓤)} {G : Goal 𝓤 H} → Γ ≡ Γ′ → Step K W (Δ ++ Γ′) G (Δ ++ Γ) G
   retold t Δ {Γ} {Γ′} {G} e = step (λ s. subst (λ (Θ : List (Item 𝓤)). Seq K W (Δ ++ Θ) G) (sym e) s)
 
-  -- the locals are freed: Δ and Γ are what stands before and after their cells
+  -- one local is freed, whose room comes first
   freed-one : K → (Δ : List (Item 𝓤)) (ls : List Local) (bs : Blocks ls) (vs : List (Option Val)) {τ : Ty} {b : ℕ}
-      (Γ : List (Item 𝓤))
-      {G : Goal 𝓤 H} → Step K W (Δ ++ held ls bs vs Γ) (frees (places H ls bs) G)
+      (Γ : List (Item 𝓤)) {G : Goal 𝓤 H} → Step K W (Δ ++ held ls bs vs Γ) (frees (places H ls bs) G)
       (‵ (froom τ b 0) ∷ (Δ ++ held ls bs vs (‵ (fdies τ b) ∷ Γ))) (frees ((τ, b) ∷ places H ls bs) G)
   freed-one t Δ ls bs vs {τ} {b} Γ = step (λ s.
       fetched t (suc (under Δ (deep ls 0))) (nth-low 𝓤 H A Δ ls bs vs _ _)
       (ap (λ (Θ : List (Item 𝓤)). ‵ (froom τ b 0) ∷ Θ) (del-low 𝓤 H A Δ ls bs vs _ _)) $ move t (1 ∷ 0 ∷ []) $ free1 t $ s)
 
+  -- all are: Δ and Γ are what stands before and after their cells
   pub freed : K → (Δ : List (Item 𝓤)) (ls : List Local) (bs : Blocks ls) (vs : List (Option Val))
       (Γ : List (Item 𝓤)) {G : Goal 𝓤 H}
       → Step K W (Δ ++ Γ) G (Δ ++ held ls bs vs Γ) (frees (places H ls bs) G)
@@ -362,8 +361,7 @@ bound 𝓤 H A S c ps κs qs ok a g =
     ((κs, qs, ok, a, valss (typesAt (S .params) κs) (spells 𝓤 H A (typesAt (S .params) κs) (ps κs)) a), g)
 
 module _ {M : Type 1} (𝓤 : URA M) (H : Heap 𝓤) (𝓜 : Model 𝓤 H) (𝓖 : GhostRules 𝓤 H) (𝓡 : Running 𝓤 H 𝓜) (γ : Routine.Env)
-    (k : Name)
-    (e : Fn) (S : Signature) (spec : Atoms 𝓤 → (Memory → SProp 𝓤) → (Routine.Routine → Fun 𝓤) → Spec 𝓤 S)
+    (k : Name) (e : Fn) (S : Signature) (spec : Atoms 𝓤 → (Memory → SProp 𝓤) → (Routine.Routine → Fun 𝓤) → Spec 𝓤 S)
     (ps : (κs : Lfts (S .lifetimes)) → Params 𝓤 H (𝓖 .A) (typesAt (S .params) κs)) where
   abbrev A : Atoms 𝓤
   A = 𝓖 .A
@@ -378,8 +376,7 @@ module _ {M : Type 1} (𝓤 : URA M) (H : Heap 𝓤) (𝓜 : Model 𝓤 H) (𝓖
   Λ = tables 𝓤 H 𝓜 𝓡 γ .Λ
 
   module _ (κs : Lfts (S .lifetimes)) (qs : Shares (S .lifetimes)) (ok : AllOutlive (S .lifetimes) (S .outlives) κs)
-      (a : Args S κs)
-      (g : c κs a .ghost) (bs : Blocks (e .locals)) where
+      (a : Args S κs) (g : c κs a .ghost) (bs : Blocks (e .locals)) where
     abbrev y : tripleOf 𝓤 H A S c .Ghost
     y = bound 𝓤 H A S c ps κs qs ok a g
 
@@ -393,8 +390,7 @@ module _ {M : Type 1} (𝓤 : URA M) (H : Heap 𝓤) (𝓜 : Model 𝓤 H) (𝓖
 
     abbrev Operands : List Val → List Operand → Type 2
     Operands vs xs = Opds (Go {0}) (givenOf 𝓤 H 𝓜 𝓖) (raw (tripleOf 𝓤 H A S c .pre y) ∷ begun (e .locals) bs vs)
-        (places H (e .locals) bs) xs
-        (tripleOf 𝓤 H A S c .args y)
+        (places H (e .locals) bs) xs (tripleOf 𝓤 H A S c .args y)
 
   abbrev Led : Type 0
   Led = (κs : Lfts (S .lifetimes)) → Leads (length (S .params)) (mirs (typesAt (S .params) κs)) (e .locals)
@@ -414,8 +410,7 @@ module _ {M : Type 1} (𝓤 : URA M) (H : Heap 𝓤) (𝓜 : Model 𝓤 H) (𝓖
       via 𝓤 (sep 𝓤 R (wand 𝓤 R (Q (y .0 .4))))
       (via 𝓤 (sep 𝓤 (wand 𝓤 R (Q (y .0 .4))) R)
       (monoL 𝓤 R (said 𝓤 H A S κs (y .0 .1) (spells 𝓤 H A Rs (ps κs)) (tell 𝓤 H A Rs (ps κs)) (y .0 .3) (λ us. wand 𝓤 R (Q us))
-      (y .0 .4)
-      (λ are. wandI 𝓤 _ R _ (qed (givenOf 𝓤 H 𝓜 𝓖) (raw (tripleOf 𝓤 H A S c .pre z) ∷ []) ∵ enter ! C Λ e
+      (y .0 .4) (λ are. wandI 𝓤 _ R _ (qed (givenOf 𝓤 H 𝓜 𝓖) (raw (tripleOf 𝓤 H A S c .pre z) ∷ []) ∵ enter ! C Λ e
       (tripleOf 𝓤 H A S c .args z) _ $
       opened ! (length (S .params)) (mirs Rs) (e .locals) (tripleOf 𝓤 H A S c .args z) (leads κs)
       (all-typed 𝓤 H A Rs (lawfuls 𝓤 H A Rs (ps κs)) (y .0 .3) _ are)
@@ -435,5 +430,4 @@ module _ {M : Type 1} (𝓤 : URA M) (H : Heap 𝓤) (𝓜 : Model 𝓤 H) (𝓖
       → Meets 𝓤 H A S (𝓡 .run (γ k)) c
   passed-on below leads met law walk = closed below leads (λ fm κs qs ok a g bs are. walk κs qs ok a g bs are
       (λ vs xs os. returned 𝓤 H A S c (bound 𝓤 H A S c ps κs qs ok a g) ! fm met (law κs .0 (givenOf 𝓤 H 𝓜 𝓖)) (e .locals) bs vs
-      (law κs .1) os
-      (λ v. id⊢ 𝓤 _)))
+      (law κs .1) os (λ v. id⊢ 𝓤 _)))
