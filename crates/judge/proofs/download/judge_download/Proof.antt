@@ -30,5 +30,5 @@ returns-4 c =
 
 pub judge-download-spec : {M : Type 1} → statement M
 judge-download-spec =
-    let told : tie.Need-enum-known-h × tie.Need-enum-told × tie.Need-enum-known-verdict × tie.Need-enum-told-2 = search needs in
-    tie.close (search (tie.spec, told, returns, returns-2, returns-3, returns-4))
+    let rest : tie.Need-enum-known-h × tie.Need-enum-told × tie.Need-enum-known-verdict × tie.Need-enum-told-2 = search needs in
+    tie.close (search (tie.spec, rest, returns, returns-2, returns-3, returns-4))

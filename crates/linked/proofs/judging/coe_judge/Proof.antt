@@ -38,6 +38,5 @@ returns-4 c =
 
 pub coe-judge-spec : {M : Type 1} → statement M
 coe-judge-spec =
-    let fits : tie.Need-cast-verdict-for = λ c. search needs in
-    let long : tie.Need-same-length = λ c. search needs in
-    tie.close (search (tie.spec, fits, long, returns, returns-2, returns-3, returns-4))
+    let rest : tie.Need-cast-verdict-for × tie.Need-same-length = search needs in
+    tie.close (search (tie.spec, rest, returns, returns-2, returns-3, returns-4))

@@ -34,5 +34,5 @@ returns-6 c = simp (sym (c .before .before .before .before .before .before .befo
 
 pub form-of-spec : {M : Type 1} → statement M
 form-of-spec =
-    let cast : tie.Need-cast-listed = λ c. search needs in
-    tie.close (search (tie.spec, returns, returns-2, download-requires, returns-3, returns-4, returns-5, returns-6))
+    let rest : tie.Need-cast-listed = search needs in
+    tie.close (search (tie.spec, rest, returns, returns-2, download-requires, returns-3, returns-4, returns-5, returns-6))
