@@ -6,7 +6,7 @@ use mathlib.Core.List.{List, [], _∷_}
 use mathlib.Core.Option.{Option, none, some}
 use Prim.Native.Nat.{ℕ, _/_}
 use lib.Dec.{eqb}
-use Rattle.wire.specs.Words.{pick, within}
+use Rattle.wire.specs.Words.{within}
 use Rattle.line.specs.Machine.{Ruling, refuse, accept, Machine}
 use Rattle.line.specs.Line.{Line, noSeat, seated}
 use Rattle.line.specs.Desk.{Call, Outcome, Desk, enter, send, receive, leave, refused, entered, sent, received, left, step}
