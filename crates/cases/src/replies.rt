@@ -21,7 +21,7 @@ fn verdict(case: &[u8], reply: &[u8], n: u32) -> Verdict {
     }
 }
 
-fn judged(case: &[u8], reply: &[u8], n: u32, data: &mut [u8]) {
+fn printed(case: &[u8], reply: &[u8], n: u32, data: &mut [u8]) {
     let verdict = verdict(case, reply, n);
     judge::store(verdict, reply, data, earlier(case) as usize);
     show::answer(judge::answer_of(verdict));
@@ -35,7 +35,7 @@ pub(crate) fn reply(case: &[u8], buffer: &mut [u8]) {
     if head <= case.len() {
         if size <= buffer.len() {
             fill(buffer);
-            judged(case, &case[head..], n, &mut buffer[0..size]);
+            printed(case, &case[head..], n, &mut buffer[0..size]);
             show::next(wire::byte(buffer, size) as u64, 2);
         }
     }
