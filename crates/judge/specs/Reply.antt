@@ -21,6 +21,7 @@ onHeaders (HeadersRead.Headers h) f = f h
 unfoldable pub inOrder : Alarm → Bool → Verdict → Verdict
 inOrder alarm wrong own = unlessAlarm alarm (pick wrong (Refused 0x23) own)
 
+-- of the reply to an upload or a download, whose own rule is f
 unfoldable pub replyTo : ℕ → ℕ → List ℕ → (Headers → Verdict) → Verdict
 replyTo index sub s f =
     onHeaders (readHeaders s) λ h.

@@ -3,7 +3,7 @@
 --     Lending, lending     what such a call has besides the desk, and what is said; and from its signature
 --     Entry, Exit          what it has at first, as its contract asks it, and what it owes at last
 --     copies               the desk's borrow is opened, the desk is copied, and the borrow is closed
---     Asked, Answered          what the desk by value asks and gives.        changes     its call
+--     Asked, Answered      what the desk by value asks and gives.        changes     its call
 --     applies              the call of `apply`, from the desk's borrow and a change in hand
 --     finishes             the change is stored and made, and the answer returned
 -- Assumes `Given`.
@@ -217,9 +217,8 @@ module _ {M : Type 1} (𝓤 : URA M) (H : Heap 𝓤) (A : Atoms 𝓤) (l : Lendi
         (subst (λ (τ : Ty). Holds (hasTy τ (T′.lowered h)) × WT (T′.lowered h)) same (desk-typed 𝓤 H A W h was))) $
         desk-closes t tt h b o was $ move t (3 ∷ 4 ∷ []) $ k made was))
 
-  -- the change r is stored, and `apply` makes it: c is the change's place, p where the desk's reference lies, and n the place of
-  -- the one
-  -- that is passed on. With these stored, each local but the result holds a value
+  -- the change r is stored, and `apply` makes it: c is the change's place, p where the desk's reference lies, and n the
+  -- place of the one that is passed on. With these stored, each local but the result holds a value
   module _ (ls : List Local) (bs : Blocks ls) where
     abbrev E₀ : Env 𝓤 H
     E₀ = places H ls bs

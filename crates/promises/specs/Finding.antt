@@ -1,4 +1,4 @@
--- What is finding of a reply: the number with its values, and the bytes of the reply that are its chunk. Document 01, "Numbers the
+-- What is told of a reply: the number with its values, and the bytes of the reply that are its chunk. Document 01, "Numbers the
 -- desk gives back". Assumes nothing.
 use mathlib.Core.List.{List, []}
 use Prim.Native.Nat.{ℕ}

@@ -1,4 +1,4 @@
--- Document 01, "Judging a reply", a second time: its rules as lists of conditions on the reply's bytes, each with what is finding
+-- Document 01, "Judging a reply", a second time: its rules as lists of conditions on the reply's bytes, each with what is told
 -- where it holds. The statements say that the judge tells what the first of them that holds tells. s is the reply, n is this
 -- call's N, earlier the sum of the earlier chunks. Assumes nothing.
 use mathlib.Core.Path.{_≡_}
@@ -23,7 +23,7 @@ use Rattle.transfer.specs.declared.due.Reply.the-variants as reply
 use Rattle.promises.specs.Fields.{whole}
 use Rattle.promises.specs.Finding.{Finding, finding, refuse, emergency, aborted, done, thenRequest, thenReply}
 
--- ---- a rule: under this condition, this is finding
+-- ---- a rule: under this condition, this is told
 
 abbrev pub Rule : Type 0
 Rule = Bool × Finding

@@ -1,6 +1,5 @@
--- `lent::apply` meets its contract: a walk of its MIR. The desk's borrow is opened, the change is made slot by slot in the desk's
--- cell, and
--- the borrow is closed at the desk that is then there.
+-- `lent::apply` meets its contract: a walk of its MIR. The desk's borrow is opened, the change is made slot by slot in
+-- the desk's cell, and the borrow is closed at the desk that is then there.
 -- Assumes nothing.
 use mathlib.Core.Path.{_≡_, refl, sym, ap, _∙_, subst}
 use mathlib.Core.Bool.{Bool, true, false, not}

@@ -1,6 +1,5 @@
--- `lent::fresh` meets its contract: a walk of its MIR. `Desk::fresh` is called, the desk's borrow is opened, the fresh desk is
--- stored,
--- and the borrow is closed at it. All that is known of `Desk::fresh` is that it meets its contract.
+-- `lent::fresh` meets its contract: a walk of its MIR. `Desk::fresh` is called, the desk's borrow is opened, the fresh
+-- desk is stored, and the borrow is closed at it. All that is known of `Desk::fresh` is that it meets its contract.
 -- Assumes nothing.
 use mathlib.Core.Path.{refl, ap, subst}
 use mathlib.Core.Option.{some as just}

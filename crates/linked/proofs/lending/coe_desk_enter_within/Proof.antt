@@ -1,6 +1,6 @@
--- `linked::lending::coe_desk_enter_within` meets its contract: a walk of its MIR. Every reference is given to `lent::enter` for
--- good, at its own
--- lifetime. The two contracts are one, so what is had at first is what `lent::enter` asks, and what it gives is what is owed.
+-- `linked::lending::coe_desk_enter_within` meets its contract: a walk of its MIR. Every reference is given to
+-- `lent::enter` for good, at its own lifetime. The two contracts are one, so what is had at first is what `lent::enter`
+-- asks, and what it gives is what is owed.
 -- Assumes nothing.
 use mathlib.Core.Path.{refl}
 use mathlib.Core.List.{[], _∷_}
