@@ -27,11 +27,11 @@ use Rattle.transfer.specs.Entry.{kindOf, outside, unfitOf}
 use Rattle.transfer.specs.Due.{firstRequest, firstReply, dueOf, requestDue, awaitingOf}
 use Rattle.transfer.specs.Judgement.{judgeReply, judgedAs, nextOf}
 use Rattle.transfer.specs.Judgement as budget
-use Rattle.transfer.specs.Coe.{Told, beginsWith, sendsWith, judged, receivesWith}
+use Rattle.transfer.specs.Coe.{beginsWith, sendsWith, judged, receivesWith}
 use Rattle.desk.specs.Record.{viewOf, deskOf}
 use Rattle.desk.specs.Calls.{answerFor, lentAfter}
 use Rattle.desk.specs.Stand.{lentBy}
-use Rattle.promises.specs.Runs.{runs}
+use Rattle.promises.specs.Runs.{runs, listings}
 use Rattle.line.specs.Lists.{keep, someOf}
 use Rattle.line.specs.Desk.{first, enter, send, receive}
 use Rattle.line.specs.Stand.{calls, after}
@@ -57,8 +57,15 @@ two = enter 0 (upload 1) ∷ send 0 (blank 16) ∷ receive 0 (expedited, blank 4
 abbrev lengths : List (List Deed) → ℕ
 lengths = foldr (λ t n. foldr (λ x m. x .told .0 .length + m) 0 t + n) 0
 
+abbrev pub firsts : {A : Type 0} → List (A × A) → List A
+firsts l = map (λ e. e .0) l
+
+abbrev pub seconds : {A : Type 0} → List (A × A) → List A
+seconds l = map (λ e. e .1) l
+
 record Facts : Type 0 where
-  holds : map (λ (r : List Told × List Told). r .0) runs ≡ map (λ (r : List Told × List Told). r .1) runs
+  holds : firsts runs ≡ seconds runs
+  lists : firsts listings ≡ seconds listings
   pretends : Demand3Of pretender isAnswered → ⊥
   invents : SumsAndBudget inventor → ⊥
 
@@ -66,6 +73,7 @@ facts : Facts
 unfolding trace step judge line.settled andThen seated find headed head vacate place viewOf deskOf answerFor lentAfter lentBy beginsWith unfitOf kindOf outside sendsWith receivesWith judged judgedAs budget.budgeted nextOf dueOf requestDue awaitingOf firstRequest firstReply judgeReply packedOf packed cutTo read priorityOf typeOf serviceOf commandOf operationOf readMailboxHeader readCoeHeader readSdoHeader readSegmented readSdoInfo answerOf readHeaders readSegmentHeaders readInformationHeaders wrongType wrongAddress emergencyIn abortIn alarmIn lacking chunkAt inOrder replyTo downloadOf judgeDownload expeditedOf wholeOf normalOf uploadOf judgeUpload chunkLength segmentOf judgeSegment fragmentAt fragmentOf judgeList stored inFront keep someOf calls after seatOf isEnter isSend own transfers sentFrame listed oneByOne requestAt asked replyAt verdictOf dueAfter moved SumsOn Sums changed
 facts = record {
   holds = refl;
+  lists = refl;
   pretends = λ D. let z : _≡_ {A = ℕ} 8 4 = ap lengths (D two) in omega arith;
   invents = λ B.
       let S = sums-of (B first refl one .0) .1 in
@@ -73,8 +81,11 @@ facts = record {
       omega arith;
 }
 
-pub runs-hold : map (λ (r : List Told × List Told). r .0) runs ≡ map (λ (r : List Told × List Told). r .1) runs
+pub runs-hold : firsts runs ≡ seconds runs
 runs-hold = facts .holds
+
+pub listings-hold : firsts listings ≡ seconds listings
+listings-hold = facts .lists
 
 pub pretender-out : Demand3Of pretender isAnswered → ⊥
 pretender-out = facts .pretends

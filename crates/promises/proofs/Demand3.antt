@@ -1,11 +1,12 @@
 -- Demand 3 of the shipped desk, and what follows from it of any. Assumes nothing.
-use mathlib.Core.Path.{sym, ap, _∙_, subst}
+use mathlib.Core.Path.{_≡_, refl, sym, ap, _∙_, subst}
 use mathlib.Core.Bool.{Bool}
 use mathlib.Core.List.{List, [], _∷_, map}
 use Prim.Native.Nat.{ℕ}
+use Rattle.wire.specs.Words.{pick, within}
 use Rattle.wire.proofs.Cases.{by}
 use Rattle.line.specs.Lists.{Each, keep}
-use Rattle.line.specs.Desk.{first, Call, Desk, freshAt, step}
+use Rattle.line.specs.Desk.{first, passAt, Call, Desk, freshAt, step}
 use Rattle.line.specs.Stand.{Stand, trace, lineStand, isAccepted}
 use Rattle.line.specs.Transfers.{sentFrame, transfers, listed, seatOf, Later, OneTransfer}
 use Rattle.line.specs.Alone.{listedOf}
@@ -15,21 +16,28 @@ use Rattle.line.proofs.Told.{retold}
 use Rattle.line.proofs.Counter.{begins-in-range}
 use Rattle.line.proofs.Refine.{fresh-trace, begins-good, begins-view}
 use Rattle.transfer.specs.Coe.{Told, coeMachine}
+use Rattle.desk.specs.Record.{counterFrom}
 use Rattle.desk.specs.Stand.{deskStand, isAnswered}
 use Rattle.desk.proofs.Demand.{says, desk-models, answered-is, demand3-desk}
 use Rattle.promises.specs.Demand3.{Demand3, ByTheFunctions, RunsExist, SinglesFollow, ServedTruly}
 use Rattle.promises.specs.Standing.{Called, Deed}
 use Rattle.promises.specs.Whole.{Follows}
+use Rattle.promises.proofs.Orders.{ranged}
 use Rattle.promises.proofs.Whole.{follows-alone}
 
 pub demand3 : Demand3
 demand3 = demand3-desk
+
+begins-at : (c : ℕ) → counterFrom c ≡ pick (within 1 7 c) c 1
+unfolding counterFrom
+begins-at c = ranged 1 7 c (λ a b. pick a 1 (pick b 1 c)) (λ w. pick w c 1) (λ b. refl) refl refl
 
 pub by-the-functions : ByTheFunctions
 by-the-functions = record {
   told = λ d k r G. (ap (λ x. x .answer) (G .told), ap (λ x. x .desk) (G .told));
   told-lent = λ d k r after G. (ap (λ x. x .answer) (G .told), ap (λ x. x .desk) (G .told), G .lent);
   fresh = λ c d F. F .empty;
+  fresh-at = λ c d F. F .empty ∙ ap (λ (n : ℕ). deskStand .fresh (passAt n)) (begins-at c);
 }
 
 pub runs-exist : RunsExist

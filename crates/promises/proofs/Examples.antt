@@ -4,18 +4,12 @@ use mathlib.Core.List.{List, [], _∷_, _++_, map, map-append}
 use Rattle.services.specs.Examples as frames
 use Rattle.judge.specs.Examples as replies
 use Rattle.reads.specs.Examples as reads
-use Rattle.promises.specs.Runs.{runs}
-use Rattle.promises.specs.Examples.{Shown, frame, reply, run, Example, shown, examples, ExamplesHold}
+use Rattle.promises.specs.Runs.{runs, listings}
+use Rattle.promises.specs.Examples.{Shown, frame, reply, run, listing, Example, shown, examples, ExamplesHold}
 use Rattle.promises.specs.Examples as shows
-use Rattle.promises.proofs.Computed.{runs-hold}
+use Rattle.promises.proofs.Computed.{firsts, seconds, runs-hold, listings-hold}
 
 -- ---- one list
-
-abbrev firsts : {A : Type 0} → List (A × A) → List A
-firsts l = map (λ e. e .0) l
-
-abbrev seconds : {A : Type 0} → List (A × A) → List A
-seconds l = map (λ e. e .1) l
 
 module _ {A : Type 0} (f : A → Shown) where
   firsts-shown : (l : List (A × A)) → firsts (map (shown f) l) ≡ map f (firsts l)
@@ -50,4 +44,5 @@ examples-hold =
     let requests = held frame frames.examples frames.examples-hold in
     let judged = held reply replies.examples replies.examples-hold in
     let values = held shows.read reads.examples reads.examples-hold in
-    joined (joined (joined requests judged) values) (held run runs runs-hold) .1
+    let told = held run runs runs-hold in
+    joined (joined (joined (joined requests judged) values) told) (held listing listings listings-hold) .1

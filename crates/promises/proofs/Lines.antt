@@ -21,7 +21,7 @@ pub data Look {A R : Type 0} (number : A → ℕ) (found : A → R) (none : R) (
   present : (a : A) → number a ≡ n → q ≡ found a → among ≡ true → Look number found none n q among
 
 module _ {A R : Type 0} (number : A → ℕ) (found : A → R) (none : R) (n : ℕ) where
-  abbrev LookIn : List A → Type 0
+  abbrev pub LookIn : List A → Type 0
   LookIn l = Look number found none n (lookUp number found none l n) (oneOf (map number l) n)
 
   further : (a : A) (l : List A) → eqb n (number a) ≡ false → LookIn l → LookIn (a ∷ l)

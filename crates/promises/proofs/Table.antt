@@ -30,6 +30,7 @@ use Rattle.desk.proofs.Held.{view-desk}
 use Rattle.desk.proofs.Kept.{good-fresh}
 use Rattle.desk.proofs.Demand.{says, desk-models}
 use Rattle.promises.specs.Table.{conditions, ofFirst, answerBy, bufferBy, TableAtRecords, ConditionTable, RequestAndStorage}
+use Rattle.promises.proofs.Orders.{unfit-is}
 use Rattle.promises.proofs.Course.{sends-is}
 
 -- ---- the conditions are the machine's own
@@ -73,7 +74,7 @@ then t a b h = ap (λ (x : Option ℕ). pick (t .0) (some (t .1)) x) h
 same-tests : (q : Queue) (k : Call coeMachine) → firstOf (tests coeMachine q k) ≡ firstOf (conditions q k)
 unfolding tests conditions
 same-tests q (enter s o) =
-    then _ _ _ (then _ _ _ (ap (λ (b : Bool). firstOf {A = ℕ} ((b, 0x15) ∷ [])) (entry-15 o)))
+    then _ _ _ (then _ _ _ (ap (λ (b : Bool). firstOf {A = ℕ} ((b, 0x15) ∷ [])) (entry-15 o) ∙ unfit-is o))
 same-tests q (send s b) =
     then _ _ _ (then _ _ _ (then _ _ _ (first-head (q .line) _ _
     (λ t. then _ _ _ (ap (λ (x : Bool). firstOf {A = ℕ} ((x, 0x16) ∷ [])) (frame-16 t (q .pass .counter) b))))))

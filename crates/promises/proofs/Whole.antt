@@ -30,6 +30,7 @@ use Rattle.desk.specs.Stand.{lentBy, deskStand, isAnswered}
 use Rattle.desk.proofs.Demand.{says, desk-models}
 use Rattle.promises.specs.Standing.{Deed, opened, isOver, Goes}
 use Rattle.promises.specs.Whole.{Sums, Follows, EachFollows}
+use Rattle.promises.proofs.Orders.{fit-is}
 use Rattle.promises.proofs.Agree.{Stands}
 use Rattle.promises.proofs.Course.{here, goes-alone}
 use Rattle.promises.proofs.Sums as sums
@@ -57,7 +58,7 @@ follows-entry s o c rest f h G =
       counter = c;
       rest = rest;
       is = refl;
-      fit = f;
+      fit = fit-is o f;
       counts = h;
       goes = G;
       within-budget = let z = sums.counts o rest (opened c) (sums.live (openedOf o) S) G in omega arith;

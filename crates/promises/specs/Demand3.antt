@@ -4,12 +4,15 @@
 use mathlib.Core.Path.{_≡_}
 use mathlib.Core.List.{List}
 use Prim.Native.Nat.{ℕ}
+use Rattle.wire.specs.Words.{pick, within}
 use Rattle.line.specs.Lists.{Each}
+use Rattle.line.specs.Desk.{passAt}
 use Rattle.line.specs.Stand.{Stand, calls, trace}
 use Rattle.line.specs.Transfers.{OneTransfer}
 use Rattle.line.specs.Alone.{Demand3Of, listedOf}
 use Rattle.line.specs.Alone as line
 use Rattle.transfer.specs.Coe.{Told, coeMachine}
+use Rattle.desk.specs.Record.{counterFrom}
 use Rattle.desk.specs.Calls as desk
 use Rattle.desk.specs.Stand.{lentBy, deskStand, isAnswered}
 use Rattle.desk.specs.declared.Called as given
@@ -29,7 +32,9 @@ pub record ByTheFunctions : Type 0 where
       → (r .answer ≡ deskStand .answers d k .0) × (r .desk ≡ deskStand .next d k)
   pub told-lent : (d : Desk) (k : Called) (r : given.Called) (after : List ℕ) → desk.GivesLent d k r (lentBy k) after
       → (r .answer ≡ deskStand .answers d k .0) × (r .desk ≡ deskStand .next d k) × (after ≡ deskStand .answers d k .1)
-  pub fresh : (c : ℕ) (d : Desk) → desk.Fresh c d → d ≡ deskStand .fresh (record { counter = c })
+  pub fresh : (c : ℕ) (d : Desk) → desk.Fresh c d → d ≡ deskStand .fresh (passAt c)
+  -- `fresh_at` ensures `Fresh (counterFrom c)`: a desk begins at any counter from 1 to 7, and at 1 whatever else it is handed
+  pub fresh-at : (c : ℕ) (d : Desk) → desk.Fresh (counterFrom c) d → d ≡ deskStand .fresh (passAt (pick (within 1 7 c) c 1))
 
 -- the runs that it speaks of exist: every sequence of calls has one, at every record
 abbrev pub RunsExist : Type 0

@@ -113,61 +113,67 @@ abbrev pub subOf : SubIndex → ℕ
 subOf Complete = 1
 subOf (Index b) = b
 
--- "Upload packs 12, specifier 2."
-abbrev pub UploadPacks : Type 0
-UploadPacks = (k i : ℕ) (a : SubIndex) → k < 8 → i < 65536 → subOf a < 256
-    → Packs 12
-    (front 10 k 2
+-- "Upload packs 12, specifier 2."; complete is the bit of complete access
+abbrev pub upload : ℕ → ℕ → ℕ → ℕ → List (Name × ℕ)
+upload k complete i b =
+    front 10 k 2
     ++ (sizeIndicator, 0)
     ∷ (expedited, 0)
     ∷ (size, 0)
-    ∷ (completeAccess, bitOf a)
+    ∷ (completeAccess, complete)
     ∷ (specifier, 2)
     ∷ (index, i)
-    ∷ (subIndex, subOf a)
-    ∷ [])
-    gaps
-    (packedOf k (Upload i a))
+    ∷ (subIndex, b)
+    ∷ []
+
+abbrev pub UploadPacks : Type 0
+UploadPacks = (k i : ℕ) (a : SubIndex) → k < 8 → i < 65536 → subOf a < 256
+    → Packs 12 (upload k (bitOf a) i (subOf a)) gaps (packedOf k (Upload i a))
 
 -- "Download packs 16 bytes, specifier 1, both flags set, size 4 minus its data length." The data are the value's first bytes.
-abbrev pub DownloadPacks : Type 0
-DownloadPacks = (k i : ℕ) (a : SubIndex) (v len : ℕ) → k < 8 → i < 65536 → subOf a < 256 → 1 ≤ len → len ≤ 4
-    → Packs 16
-    (front 10 k 2
+abbrev pub download : ℕ → ℕ → ℕ → ℕ → ℕ → ℕ → List (Name × ℕ)
+download k complete i b v len =
+    front 10 k 2
     ++ (sizeIndicator, 1)
     ∷ (expedited, 1)
     ∷ (size, 4 - len)
-    ∷ (completeAccess, bitOf a)
+    ∷ (completeAccess, complete)
     ∷ (specifier, 1)
     ∷ (index, i)
-    ∷ (subIndex, subOf a)
+    ∷ (subIndex, b)
     ∷ (expeditedData, v % 256 ^ len)
-    ∷ [])
-    gaps
-    (packedOf k (Download i a v len))
+    ∷ []
+
+abbrev pub DownloadPacks : Type 0
+DownloadPacks = (k i : ℕ) (a : SubIndex) (v len : ℕ) → k < 8 → i < 65536 → subOf a < 256 → 1 ≤ len → len ≤ 4
+    → Packs 16 (download k (bitOf a) i (subOf a) v len) gaps (packedOf k (Download i a v len))
 
 -- "Segment upload packs 9, specifier 3."
-abbrev pub SegmentPacks : Type 0
-SegmentPacks = (k : ℕ) (t : Bool) → k < 8
-    → Packs 9
-    (front 10 k 2
+abbrev pub segment : ℕ → ℕ → List (Name × ℕ)
+segment k t =
+    front 10 k 2
     ++ (lastSegment, 0)
     ∷ (unusedCount, 0)
-    ∷ (toggle, cond t 1 0)
+    ∷ (toggle, t)
     ∷ (specifier, 3)
-    ∷ [])
-    gaps
-    (packedOf k (Segment t))
+    ∷ []
+
+abbrev pub SegmentPacks : Type 0
+SegmentPacks = (k : ℕ) (t : Bool) → k < 8 → Packs 9 (segment k (cond t 1 0)) gaps (packedOf k (Segment t))
 
 -- "Information packs 14, operation 1, kind 1-5, or 0 for quantities."
-abbrev pub InformationPacks : Type 0
-InformationPacks = (k kind : ℕ) → k < 8 → kind ≤ 5
-    → Packs 14
-    (front 8 k 8
+abbrev pub information : ℕ → ℕ → List (Name × ℕ)
+information k kind =
+    front 8 k 8
     ++ (operation, 1)
     ∷ (incomplete, 0)
     ∷ (fragmentsLeft, 0)
     ∷ (listKind, kind)
-    ∷ [])
-    (gaps ++ whole 9 9 ∷ [])
-    (packedOf k (Information kind))
+    ∷ []
+
+-- the byte behind the operation is skipped as well
+abbrev pub informationGaps : List Field
+informationGaps = gaps ++ whole 9 9 ∷ []
+
+abbrev pub InformationPacks : Type 0
+InformationPacks = (k kind : ℕ) → k < 8 → kind ≤ 5 → Packs 14 (information k kind) informationGaps (packedOf k (Information kind))

@@ -1,4 +1,6 @@
 pub mod Fields
+pub mod Orders
+pub mod Codes
 pub mod Finding
 pub mod Rules
 pub mod Standing

@@ -12,15 +12,17 @@ use Rattle.wire.specs.Words.{pick, both, either, firstOf}
 use Rattle.wire.specs.Fields.{read}
 use Rattle.mailbox.specs.Fields.{Name, the, lengthField, mailboxType, service, expedited, size, specifier, index, subIndex, lastSegment, unusedCount, operation, incomplete}
 use Rattle.judge.specs.Answers.{oneOf}
-use Rattle.services.specs.Requests.{packedOf}
-use Rattle.transfer.specs.Entry.{unfitOf}
+use Rattle.mailbox.specs.declared.sub_index.SubIndex.{SubIndex}
+use Rattle.services.specs.Requests.{packedOf, answered}
+use Rattle.services.specs.declared.Request.the-variants.{Upload, Download, Segment, Information}
 use Rattle.transfer.specs.Due.{dueOf, requestDue, awaitingOf}
 use Rattle.transfer.specs.Judgement.{judgeReply, budgeted}
 use Rattle.transfer.specs.Coe.{requestIn, replyIn}
 use Rattle.transfer.specs.declared.Transfer.{Transfer}
 use Rattle.transfer.specs.declared.due.Reply.{Reply}
 use Rattle.transfer.specs.declared.due.Reply.the-variants as reply
-use Rattle.promises.specs.Fields.{whole}
+use Rattle.promises.specs.Fields.{whole, subOf}
+use Rattle.promises.specs.Orders.{Fit}
 use Rattle.promises.specs.Finding.{Finding, finding, refuse, emergency, aborted, done, thenRequest, thenReply}
 
 -- ---- a rule: under this condition, this is told
@@ -193,6 +195,14 @@ Answers frame (reply.Fragment begun) = (the service frame ≡ 8) × (begun ≡ f
 
 -- of every order that is not answered 15, at every counter c
 abbrev pub AwaitsAnAnswer : Type 0
-AwaitsAnAnswer = (t : Transfer) (c : ℕ) → c < 8 → t .order .index < 65536 → t .order .sub < 256 → unfitOf (t .order) ≡ false
+AwaitsAnAnswer = (t : Transfer) (c : ℕ) → c < 8 → t .order .index < 65536 → t .order .sub < 256 → Fit (t .order)
     → requestDue t ≡ true
     → Answers (packedOf c (requestIn (dueOf t))) (replyIn (dueOf (awaitingOf t)))
+
+-- the Rust's `validate_response` says of a reply's index i and sub-index b whether they are the request's: "index or sub-index not the
+-- request's", "not for segments"; a list's reply names none either
+pub record Validates : Type 0 where
+  pub upload : (index : ℕ) (a : SubIndex) (i b : ℕ) → answered (Upload index a) i b ≡ both (eqb i index) (eqb b (subOf a))
+  pub download : (index : ℕ) (a : SubIndex) (v len i b : ℕ) → answered (Download index a v len) i b ≡ both (eqb i index) (eqb b (subOf a))
+  pub segment : (t : Bool) (i b : ℕ) → answered (Segment t) i b ≡ true
+  pub information : (kind i b : ℕ) → answered (Information kind) i b ≡ true

@@ -6,9 +6,10 @@ use Rattle.wire.specs.Bytes.{hex}
 use Rattle.judge.specs.Answers.{plainOf, doneWith}
 use Rattle.line.specs.Desk.{passAt, enter, send, receive, leave}
 use Rattle.line.specs.Stand.{trace}
+use Rattle.line.specs.Alone.{listedOf}
 use Rattle.transfer.specs.declared.Order.{Order}
 use Rattle.transfer.specs.Coe.{Told}
-use Rattle.desk.specs.Stand.{deskStand}
+use Rattle.desk.specs.Stand.{deskStand, isAnswered}
 use Rattle.promises.specs.Standing.{Called, Deed}
 
 abbrev pub toldFrom : ℕ → List Called → List Told
@@ -27,6 +28,17 @@ download = record { kind = 3; sub = 0; index = 0x6060; value = 0x08; len = 1; bu
 -- object list of kind 1
 abbrev pub list : Order
 list = record { kind = 4; sub = 0; index = 1; value = 0; len = 0; budget = 9 }
+
+-- the other kinds: 0x1018 with complete access, whatever sub-index is handed in; the quantities, whatever index is; and a download to
+-- 0x6060 with complete access, of which a value of four bytes is handed in and one is sent
+abbrev pub completeUpload : Order
+completeUpload = record { kind = 2; sub = 5; index = 0x1018; value = 0; len = 0; budget = 1 }
+
+abbrev pub quantities : Order
+quantities = record { kind = 5; sub = 0; index = 5; value = 0; len = 0; budget = 1 }
+
+abbrev pub completeDownload : Order
+completeDownload = record { kind = 6; sub = 5; index = 0x6060; value = 0x11223308; len = 1; budget = 1 }
 
 -- ---- buffers and replies
 
@@ -57,6 +69,13 @@ lastFragment = hex 14 0x0a00000000130080020000001122
 
 abbrev pub downloaded : List ℕ
 downloaded = hex 16 0x0a000000001300306060600000000000
+
+abbrev pub completelyDownloaded : List ℕ
+completelyDownloaded = hex 16 0x0a000000001300307060600100000000
+
+-- five counts, in one fragment
+abbrev pub counts : List ℕ
+counts = hex 24 0x120000000013008002000000000001000200030004000501
 
 -- ---- what is told
 
@@ -133,6 +152,22 @@ runs =
       toldFrom 2 (enter 0 download ∷ send 0 (blank 16) ∷ receive 0 (downloaded, blank 2) ∷ []),
       entered ∷ sent (hex 16 0x0a000000002300202f60600008000000) ∷ (doneWith 0, blank 2) ∷ [],
     )
+    -- complete access, the quantities, and complete access again: each with the frame and the reply that its kind's number stands for
+    ∷ (
+      toldFrom 7
+          (enter 0 completeUpload ∷ send 0 (blank 16) ∷ receive 0 (expedited, blank 5) ∷ enter 0 quantities ∷ send 0 (blank 16)
+          ∷ receive 0 (counts, blank 11) ∷ enter 0 completeDownload ∷ send 0 (blank 16) ∷ receive 0 (completelyDownloaded, blank 1) ∷ []),
+      entered
+          ∷ sent (hex 16 0x0a000000007300205018100100000000)
+          ∷ (doneWith 4, hex 5 0x78563412ee)
+          ∷ entered
+          ∷ sent (hex 16 0x08000000001300800100000000000000)
+          ∷ (doneWith 10, hex 11 0x01000200030004000501ee)
+          ∷ entered
+          ∷ sent (hex 16 0x0a000000002300203f60600108000000)
+          ∷ (doneWith 0, blank 1)
+          ∷ [],
+    )
     -- two tasks ask one drive at once: the second waits until the first is done, and gets its own record
     ∷ (
       toldFrom 1
@@ -167,6 +202,42 @@ runs =
           ∷ refused 0x14 []
           ∷ refused 0x16 (blank 15)
           ∷ sent (hex 16 0x0a000000001300204018100100000000)
+          ∷ [],
+    )
+    ∷ []
+
+-- ---- demand 3's list
+
+abbrev did : Called → Told → Deed
+did k t = record { call = k; told = t }
+
+-- one upload of 0x1018:01 in one reply, as it is listed, with its frame
+abbrev uploaded : ℕ → ℕ → List Deed
+uploaded s frame =
+    did (enter s (upload 9)) entered
+    ∷ did (send s (blank 16)) (sent (hex 16 frame))
+    ∷ did (receive s (expedited, blank 4)) (doneWith 4, hex 4 0x78563412)
+    ∷ []
+
+-- calls from a fresh desk, and the transfers that are listed of them: by order of entry, each with its own accepted calls and what was told
+abbrev pub listings : List (List (List Deed) × List (List Deed))
+listings =
+    -- seats 5 and 3 interleaved, with calls that are refused; seat 6 never sends, and leaves; then seat 5 is used again, while 3 is the head
+    (
+      listedOf deskStand isAnswered
+          (enter 5 (upload 9) ∷ enter 6 download ∷ enter 3 (upload 9) ∷ send 3 (blank 16) ∷ send 5 (blank 16) ∷ receive 3 (expedited, blank 4)
+          ∷ receive 5 (expedited, blank 4) ∷ leave 6 ∷ send 3 (blank 16) ∷ enter 5 (upload 9) ∷ send 5 (blank 16)
+          ∷ receive 3 (expedited, blank 4) ∷ send 5 (blank 16) ∷ receive 5 (expedited, blank 4) ∷ leave 5 ∷ []),
+      uploaded 5 0x0a000000001300204018100100000000
+          ∷ uploaded 3 0x0a000000002300204018100100000000
+          ∷ uploaded 5 0x0a000000003300204018100100000000
+          ∷ [],
+    )
+    -- a transfer that has sent is listed as far as it went: left by its task, or still under way
+    ∷ (
+      listedOf deskStand isAnswered (enter 0 list ∷ send 0 (blank 16) ∷ enter 1 list ∷ leave 0 ∷ send 1 (blank 16) ∷ []),
+      (did (enter 0 list) entered ∷ did (send 0 (blank 16)) (sent (hex 16 0x08000000001300800100000001000000)) ∷ did (leave 0) left ∷ [])
+          ∷ (did (enter 1 list) entered ∷ did (send 1 (blank 16)) (sent (hex 16 0x08000000002300800100000001000000)) ∷ [])
           ∷ [],
     )
     ∷ []

@@ -18,13 +18,13 @@ use Rattle.line.specs.Line.{Line, seated}
 use Rattle.line.specs.Desk.{Pass, enter, send, receive, leave, freshAt}
 use Rattle.line.specs.Stand.{Stand, after, lineStand}
 use Rattle.line.specs.Numbers.{Test, leads, ofHead}
-use Rattle.transfer.specs.Entry.{unfitOf}
 use Rattle.transfer.specs.Due.{dueOf, requestDue}
 use Rattle.transfer.specs.Coe.{Told, requestIn, judged, coeMachine}
 use Rattle.transfer.specs.declared.Transfer.{Transfer}
 use Rattle.desk.specs.Record.{Queue, Good, viewOf}
 use Rattle.desk.specs.Stand.{lentBy, deskStand}
 use Rattle.desk.specs.declared.Desk.{Desk}
+use Rattle.promises.specs.Orders.{unfit}
 use Rattle.promises.specs.Standing.{Called}
 
 -- ---- when a call is refused
@@ -36,8 +36,7 @@ conditions q (enter s o) =
     -- "seat taken"
     ∷ (seated s (q .line), 0x11)
     -- "entry: data length not 1-4, list kind not 1-5, budget 0"
-    ∷ (unfitOf o, 0x15)
-    ∷ []
+    ∷ unfit o
 conditions q (send s b) =
     (ltb 7 s, 0x10)
     -- "seat empty"

@@ -1,7 +1,7 @@
 -- A whole transfer: an entry, and its own accepted calls. `Follows` says what they give, call by call (`Goes`), and then what that comes
 -- to: how many replies, P, and the payload in the lent buffer. Assumes nothing.
 use mathlib.Core.Path.{_≡_}
-use mathlib.Core.Bool.{false, true}
+use mathlib.Core.Bool.{true}
 use mathlib.Core.List.{List, [], _∷_}
 use Prim.Native.Nat.{ℕ, _+_, _≤_}
 use lib.ListN.{length}
@@ -12,12 +12,12 @@ use Rattle.line.specs.Lists.{Each, keep}
 use Rattle.line.specs.Desk.{enter, send, receive, leave}
 use Rattle.line.specs.Stand.{trace}
 use Rattle.line.specs.Transfers.{transfers}
-use Rattle.transfer.specs.Entry.{unfitOf}
 use Rattle.transfer.specs.declared.Order.{Order}
 use Rattle.desk.specs.Record.{Good}
 use Rattle.transfer.specs.Coe.{Told}
 use Rattle.desk.specs.Stand.{deskStand, isAnswered}
 use Rattle.desk.specs.declared.Desk.{Desk}
+use Rattle.promises.specs.Orders.{Fit}
 use Rattle.promises.specs.Standing.{Called, Deed, Standing, opened, moved, Goes}
 
 unfoldable pub heardBy : Called → ℕ
@@ -83,7 +83,7 @@ pub record Follows (t : List Deed) : Type 0 where
   pub rest : List Deed
   -- "Accepted, it answers 01 at any place in line."
   pub is : t ≡ record { call = enter seat order; told = (plainOf 0x01, []) } ∷ rest
-  pub fit : unfitOf order ≡ false
+  pub fit : Fit order
   pub counts : within 1 7 counter ≡ true
   pub goes : Goes order (opened counter) rest
   -- "a reply budget of 1 to 65,535": it takes no more replies than that
