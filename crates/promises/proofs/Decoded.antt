@@ -41,27 +41,28 @@ use Rattle.judge.specs.declared.headers.SegmentHeadersRead.the-variants as Segm
 use Rattle.judge.specs.declared.headers.InformationHeaders.{InformationHeaders}
 use Rattle.judge.specs.declared.headers.InformationHeadersRead.the-variants as InformationHeadersRead
 use Rattle.promises.specs.Finding.{Finding, refuse}
-use Rattle.promises.specs.Rules.{under, unlisted, types, services, specifiers, operations}
+use Rattle.promises.specs.Names.{numbers, types, services, specifiers, operations}
+use Rattle.promises.specs.Rules.{under, unlisted}
 use Rattle.promises.proofs.Lines.{Look, look, Tells, line, listed}
 
 -- ---- the listed numbers
 
-type-look : (n : ℕ) → Look names.typeNumber ListedType.Listed ListedType.Unlisted n (names.typeOf n) (oneOf types n)
+type-look : (n : ℕ) → Look names.typeNumber ListedType.Listed ListedType.Unlisted n (names.typeOf n) (oneOf (numbers types) n)
 unfolding names.typeOf
 type-look n = look names.typeNumber ListedType.Listed ListedType.Unlisted n names.types
 
 service-look : (n : ℕ)
-    → Look names.serviceNumber ListedService.Listed ListedService.Unlisted n (names.serviceOf n) (oneOf services n)
+    → Look names.serviceNumber ListedService.Listed ListedService.Unlisted n (names.serviceOf n) (oneOf (numbers services) n)
 unfolding names.serviceOf
 service-look n = look names.serviceNumber ListedService.Listed ListedService.Unlisted n names.services
 
 pub specifier-look : (n : ℕ)
-    → Look names.commandNumber ListedCommand.Listed ListedCommand.Unlisted n (names.commandOf n) (oneOf specifiers n)
+    → Look names.commandNumber ListedCommand.Listed ListedCommand.Unlisted n (names.commandOf n) (oneOf (numbers specifiers) n)
 unfolding names.commandOf
 specifier-look n = look names.commandNumber ListedCommand.Listed ListedCommand.Unlisted n names.commands
 
 pub operation-look : (n : ℕ)
-    → Look names.operationNumber ListedOpCode.Listed ListedOpCode.Unlisted n (names.operationOf n) (oneOf operations n)
+    → Look names.operationNumber ListedOpCode.Listed ListedOpCode.Unlisted n (names.operationOf n) (oneOf (numbers operations) n)
 unfolding names.operationOf
 operation-look n = look names.operationNumber ListedOpCode.Listed ListedOpCode.Unlisted n names.operations
 

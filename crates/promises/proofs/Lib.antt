@@ -1,7 +1,7 @@
 pub mod Fields
 pub mod Orders
 pub mod Lines
-pub mod Codes
+pub mod Names
 pub mod Decoded
 pub mod Rules
 pub mod Budget

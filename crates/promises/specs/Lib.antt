@@ -1,6 +1,6 @@
 pub mod Fields
+pub mod Names
 pub mod Orders
-pub mod Codes
 pub mod Finding
 pub mod Rules
 pub mod Standing

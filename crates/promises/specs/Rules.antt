@@ -22,6 +22,7 @@ use Rattle.transfer.specs.declared.Transfer.{Transfer}
 use Rattle.transfer.specs.declared.due.Reply.{Reply}
 use Rattle.transfer.specs.declared.due.Reply.the-variants as reply
 use Rattle.promises.specs.Fields.{whole, subOf}
+use Rattle.promises.specs.Names.{numbers, types, services, specifiers, operations}
 use Rattle.promises.specs.Orders.{Fit}
 use Rattle.promises.specs.Finding.{Finding, finding, refuse, emergency, aborted, done, thenRequest, thenReply}
 
@@ -50,21 +51,9 @@ at first last s = read (whole first last) s
 abbrev pub isSet : Name → List ℕ → Bool
 isSet bit s = eqb (the bit s) 1
 
--- "Listed numbers: types 0-5 and 15; services 1-8; specifiers 1-4 in the source, and 0 ..; operations 1-7."
-abbrev pub unlisted : List ℕ → ℕ → Bool
-unlisted numbers x = not (oneOf numbers x)
-
-abbrev pub types : List ℕ
-types = 0 ∷ 1 ∷ 2 ∷ 3 ∷ 4 ∷ 5 ∷ 15 ∷ []
-
-abbrev pub services : List ℕ
-services = 1 ∷ 2 ∷ 3 ∷ 4 ∷ 5 ∷ 6 ∷ 7 ∷ 8 ∷ []
-
-abbrev pub specifiers : List ℕ
-specifiers = 0 ∷ 1 ∷ 2 ∷ 3 ∷ 4 ∷ []
-
-abbrev pub operations : List ℕ
-operations = 1 ∷ 2 ∷ 3 ∷ 4 ∷ 5 ∷ 6 ∷ 7 ∷ []
+-- the table does not have the number
+abbrev pub unlisted : {A : Type 0} → List (ℕ × A) → ℕ → Bool
+unlisted table x = not (oneOf (numbers table) x)
 
 -- ---- "SDO replies, in this order:"
 
