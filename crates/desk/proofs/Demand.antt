@@ -1,17 +1,17 @@
--- Demand 3 holds of the desk's record and calls: they model line's desk. Assumes nothing.
+-- Demand 3 holds of the desk's record and calls, and no call is lost: they model line's desk. Assumes nothing.
 use mathlib.Core.Path.{_≡_, refl, sym, ap, _∙_}
 use mathlib.Core.Bool.{not}
 use Prim.Native.Nat.{ℕ}
 use Rattle.line.specs.Desk.{passAt, Call, Outcome, refused, entered, sent, received, left, freshAt, step}
 use Rattle.line.specs.Stand.{isAccepted}
 use Rattle.line.specs.Numbers.{is1x, number}
-use Rattle.line.proofs.Refine.{Models, demand3-of}
+use Rattle.line.proofs.Refine.{Models, demand3-of, loses-none-of}
 use Rattle.line.proofs.Refusals.{accepted-numbers}
 use Rattle.transfer.specs.Coe.{Told, coeMachine}
 use Rattle.transfer.proofs.Numbers.{coeNumbered}
 use Rattle.desk.specs.Record.{Queue, Good, viewOf}
 use Rattle.desk.specs.Calls.{answerFor, lentAfter}
-use Rattle.desk.specs.Stand.{lentBy, deskStand, isAnswered, Demand3Desk}
+use Rattle.desk.specs.Stand.{lentBy, deskStand, isAnswered, Demand3Desk, LosesNoneDesk}
 use Rattle.desk.specs.declared.Desk.{Desk}
 use Rattle.desk.proofs.Held.{view-desk}
 use Rattle.desk.proofs.Kept.{good-fresh, good-step}
@@ -53,3 +53,6 @@ desk-models = record {
 
 pub demand3-desk : Demand3Desk
 demand3-desk = demand3-of deskStand isAnswered desk-models
+
+pub loses-none-desk : LosesNoneDesk
+loses-none-desk = loses-none-of deskStand isAnswered desk-models

@@ -5,7 +5,7 @@ use mathlib.Core.List.{List, []}
 use Prim.Native.Nat.{ℕ}
 use Rattle.line.specs.Desk.{passAt, Call, enter, send, receive, leave, step}
 use Rattle.line.specs.Stand.{Stand}
-use Rattle.line.specs.Alone.{Demand3Of}
+use Rattle.line.specs.Alone.{Demand3Of, LosesNone}
 use Rattle.line.specs.Numbers.{is1x}
 use Rattle.transfer.specs.Coe.{Told, coeMachine}
 use Rattle.desk.specs.Record.{viewOf, emptyAt}
@@ -38,3 +38,7 @@ isAnswered t = not (is1x (t .0 .number))
 -- demand 3
 abbrev pub Demand3Desk : Type 0
 Demand3Desk = Demand3Of deskStand isAnswered
+
+-- and its transfers have every call that was not answered 1x
+abbrev pub LosesNoneDesk : Type 0
+LosesNoneDesk = LosesNone deskStand isAnswered

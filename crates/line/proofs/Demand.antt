@@ -1,5 +1,6 @@
--- Demand 3 holds of the line's own desk, whatever the machine: `demand3`. The induction is over the calls, from any desk whose
--- seats are distinct, and claims `Good`. Transfers that never send are parts too, so no filter stands in it. Assumes nothing.
+-- Demand 3 holds of the line's own desk, whatever the machine, and no accepted call is lost: `demand3`, `loses-none`. The induction is
+-- over the calls, from any desk whose seats are distinct, and claims `Good`. Transfers that never send are parts too, so no filter
+-- stands in it. Assumes nothing.
 use mathlib.Core.Path.{_≡_, refl, sym, ap, _∙_}
 use Prim.Native.Nat.{ℕ}
 use mathlib.Core.Bool.{Bool, false, true≢false}
@@ -14,13 +15,14 @@ use Rattle.line.specs.Line.{Line, noSeat, seated, find, vacate, place}
 use Rattle.line.specs.Desk.{Pass, first, Call, Outcome, Desk, enter, send, receive, leave, entered, sent, received, left, step}
 use Rattle.line.specs.Stand.{Event, calls, trace, after, lineStand, isAccepted}
 use Rattle.line.specs.Transfers.{seatOf, isEnter, own, transfers, listed}
-use Rattle.line.specs.Alone.{Demand3}
+use Rattle.line.specs.Alone.{Demand3, LosesNone}
 use Rattle.line.specs.Sound.{Distinct}
 use Rattle.line.proofs.Rulings.{eqb-self, eqb-sym}
 use Rattle.line.proofs.Seats.{seated-cons, seated-snoc, seated-place, seated-vacate, vacated, vacate-cons, vacate-head, vacate-self, find-other, find-head, find-seated}
 use Rattle.line.proofs.Steps.{head-turn, enter-01, send-02, receive-judged, leave-03}
 use Rattle.line.proofs.Moves.{at, Move, stays, joins, asks, hears, goes, move}
 use Rattle.line.proofs.Kept.{distinct-move}
+use Rattle.line.proofs.Ones.{entered-first}
 use Rattle.line.proofs.Quiet.{chain-listed}
 use Rattle.line.proofs.Parts.{Events, ev, Part, Chain, waiting, entering, chain-cons, chain-map, waiting-snoc, own-other, own-here, waiting-other, entering-other}
 
@@ -137,6 +139,15 @@ module _ (M : Machine) where
       → let xs = keep okay (trace (lineStand M) d ks) in Chain M (d .pass) (waiting M (d .line) xs ++ entering M xs)
   chain-ahead ks d D = good ks d D .chain
 
+  -- nothing is accepted for an empty seat before an entry
+  pub none-before : (ks : List (Call M)) (d : Desk M) → Distinct (d .line) → (s : ℕ) → seated s (d .line) ≡ false
+      → own s (keep okay (trace (lineStand M) d ks)) ≡ []
+  none-before ks d D = good ks d D .free
+
   pub demand3 : Demand3 M
   unfolding listed entering waiting
   demand3 ks = chain-listed M _ first (chain-ahead ks (at M [] first) tt)
+
+  pub loses-none : LosesNone (lineStand M) (isAccepted M)
+  unfolding seated
+  loses-none p ks s b = entered-first s _ (none-before ks (at M [] p) tt s refl)

@@ -1,16 +1,19 @@
 -- A stand of another make, whose states stand for desks of the line and which tells of each call what the line's desk gives, has
--- demand 3. For whoever builds a desk: `Models` is what is owed. Assumes nothing.
+-- demand 3 and loses no call. For whoever builds a desk: `Models` is what is owed. Assumes nothing.
 use mathlib.Core.Path.{_≡_, refl, sym, ap, ap₂, _∙_, subst}
 use mathlib.Core.Bool.{Bool}
 use mathlib.Core.List.{List, [], _∷_, map}
+use Prim.Native.Nat.{ℕ}
 use Rattle.line.specs.Lists.{Each, keep}
 use Rattle.line.specs.Machine.{Machine}
+use Rattle.line.specs.Line.{seated}
 use Rattle.line.specs.Desk.{Pass, first, Call, Outcome, Desk, freshAt, step}
 use Rattle.line.specs.Stand.{Stand, Event, calls, trace, after, lineStand, isAccepted}
-use Rattle.line.specs.Transfers.{transfers, listed}
-use Rattle.line.specs.Alone.{oneByOne, listedOf, Demand3Of, Begins, at-first, behind}
-use Rattle.line.proofs.Demand.{demand3}
-use Rattle.line.proofs.Told.{retold, all-calls-retold, entries-retold, listed-retold}
+use Rattle.line.specs.Transfers.{own, transfers, listed}
+use Rattle.line.specs.Alone.{oneByOne, listedOf, Demand3Of, Begins, at-first, behind, LosesNone}
+use Rattle.line.proofs.Demand.{none-before, demand3}
+use Rattle.line.proofs.Ones.{entered-first}
+use Rattle.line.proofs.Told.{retold, all-calls-retold, own-accepted-retold, entries-retold, listed-retold}
 
 pub record Models {M : Machine} {T : Type 0} (S : Stand M T) (ok : T → Bool) : Type 1 where
   pub Good : S .State → Type 0
@@ -103,3 +106,11 @@ module _ {M : Machine} {T : Type 0} (S : Stand M T) (ok : T → Bool) (H : Model
       ∙ one-by-one-is first (map calls ts) first-good
       ∙ ap (map (map (retold says))) (demand3 M ks)
       ∙ sym (listed-is ks)
+
+  pub loses-none-of : LosesNone S ok
+  unfolding seated
+  loses-none-of p ks s b =
+      entered-first s _
+      (ap (λ (xs : Events). own s (keep (λ x. ok (x .told)) xs)) (fresh-trace p ks (begins-good b))
+      ∙ own-accepted-retold says ok (isAccepted M) (trace (lineStand M) (freshAt M p) ks) (agree (freshAt M p) ks) s
+      ∙ ap (map (retold says)) (none-before M ks (freshAt M p) tt s refl))

@@ -55,10 +55,14 @@ module _ {M : Machine} {T U : Type 0} (says : Call M → T → U) where
 
   -- where the two ways agree on which calls were accepted
   module _ (ok : U → Bool) (ok₀ : T → Bool) (xs : List (Event M T)) (h : Each (λ x. ok (retold x .told) ≡ ok₀ (x .told)) xs) where
+    accepted-retold : keep (λ x. ok (x .told)) (map retold xs) ≡ map retold (keep (λ x. ok₀ (x .told)) xs)
+    accepted-retold = keep-map retold (λ x. ok (x .told)) (λ x. ok₀ (x .told)) xs h
+
+    pub own-accepted-retold : (s : ℕ) → own s (keep (λ x. ok (x .told)) (map retold xs)) ≡ map retold (own s (keep (λ x. ok₀ (x .told)) xs))
+    own-accepted-retold s = ap (own s) accepted-retold ∙ own-retold s (keep (λ (x : Event M T). ok₀ (x .told)) xs)
+
     pub entries-retold : transfers (keep (λ x. ok (x .told)) (map retold xs)) ≡ map (map retold) (transfers (keep (λ x. ok₀ (x .told)) xs))
-    entries-retold =
-        ap transfers (keep-map retold (λ x. ok (x .told)) (λ x. ok₀ (x .told)) xs h)
-        ∙ transfers-retold (keep (λ (x : Event M T). ok₀ (x .told)) xs)
+    entries-retold = ap transfers accepted-retold ∙ transfers-retold (keep (λ (x : Event M T). ok₀ (x .told)) xs)
 
     pub listed-retold : listed ok (map retold xs) ≡ map (map retold) (listed ok₀ xs)
     unfolding listed

@@ -8,12 +8,13 @@
 use mathlib.Core.Path.{_≡_}
 use mathlib.Core.Bool.{Bool, true}
 use mathlib.Core.List.{List, [], _∷_, map}
+use Prim.Native.Nat.{ℕ}
 use Rattle.wire.specs.Words.{within}
 use Rattle.line.specs.Lists.{Each, keep}
 use Rattle.line.specs.Machine.{Machine}
 use Rattle.line.specs.Desk.{Pass, first, Call, Outcome, Desk, freshAt}
 use Rattle.line.specs.Stand.{Stand, Event, calls, trace, after, lineStand, isAccepted}
-use Rattle.line.specs.Transfers.{transfers, listed}
+use Rattle.line.specs.Transfers.{transfers, listed, servedAt, madeAt}
 use Rattle.line.specs.Sound.{Distinct}
 
 module _ {M : Machine} {T : Type 0} (S : Stand M T) where
@@ -35,6 +36,13 @@ module _ {M : Machine} {T : Type 0} (S : Stand M T) where
   pub data Begins : Pass → Type 0 where
     at-first : Begins first
     behind : {p : Pass} (ks : List (Call M)) → Begins p → Begins (S .pass (after S (S .fresh p) ks))
+
+  -- No accepted call is lost: from a fresh desk, those for a seat are, in their order, those of the transfers that entered there.
+  -- Demand 3 speaks of the ones among these that sent a frame.
+  abbrev pub LosesNone : (T → Bool) → Type 0
+  LosesNone ok = (p : Pass) (ks : List (Call M)) (s : ℕ) → Begins p →
+      let xs = keep (λ x. ok (x .told)) (trace S (S .fresh p) ks) in
+      servedAt s xs ≡ madeAt s xs
 
   -- the events are this stand's own single run of their calls
   pub record Single (t : List (Event M T)) : Type 0 where

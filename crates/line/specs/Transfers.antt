@@ -3,7 +3,7 @@
 use mathlib.Core.Path.{_≡_}
 use Prim.Native.Nat.{ℕ}
 use mathlib.Core.Bool.{Bool, true, false}
-use mathlib.Core.List.{List, [], _∷_, _++_}
+use mathlib.Core.List.{List, [], _∷_, _++_, flatten}
 use lib.Dec.{eqb}
 use Rattle.wire.specs.Words.{pick}
 use Rattle.line.specs.Lists.{Each, keep, someOf}
@@ -48,6 +48,18 @@ module _ {M : Machine} where
     unfoldable pub listed : (T → Bool) → List (Event M T) → List (List (Event M T))
     listed ok xs = keep sentFrame (transfers (keep (λ x. ok (x .told)) xs))
 
+    unfoldable pub entersAt : ℕ → List (Event M T) → Bool
+    entersAt s [] = false
+    entersAt s (x ∷ xs) = eqb s (seatOf (x .call))
+
+    -- the transfers that entered at a seat, one behind another
+    unfoldable pub servedAt : ℕ → List (Event M T) → List (Event M T)
+    servedAt s xs = flatten (keep (entersAt s) (transfers xs))
+
+    -- all calls for a seat
+    unfoldable pub madeAt : ℕ → List (Event M T) → List (Event M T)
+    madeAt s = keep (λ x. eqb s (seatOf (x .call)))
+
     -- a call that belongs to the transfer at seat s
     pub record Later (ok : T → Bool) (s : ℕ) (x : Event M T) : Type 0 where
       pub seat : eqb s (seatOf (x .call)) ≡ true
@@ -61,3 +73,7 @@ module _ {M : Machine} where
         (isEnter (x .call) ≡ true)
         × (ok (x .told) ≡ true)
         × Each (Later ok (seatOf (x .call))) xs
+
+-- no call is lost, whatever the list: those for a seat are the ones up to the first entry there, and then each entry's own
+abbrev pub AllCalls : Machine → Type 0 → Type 0
+AllCalls M T = (s : ℕ) (xs : List (Event M T)) → own s xs ++ servedAt s xs ≡ madeAt s xs
