@@ -18,8 +18,8 @@ use Rattle.line.proofs.Refine.{fresh-trace, begins-good, begins-view}
 use Rattle.transfer.specs.Coe.{Told, coeMachine}
 use Rattle.desk.specs.Record.{counterFrom}
 use Rattle.desk.specs.Stand.{deskStand, isAnswered}
-use Rattle.desk.proofs.Demand.{says, desk-models, answered-is, demand3-desk}
-use Rattle.promises.specs.Demand3.{Demand3, ByTheFunctions, RunsExist, SinglesFollow, ServedTruly}
+use Rattle.desk.proofs.Demand.{says, desk-models, answered-is, demand3-desk, loses-none-desk}
+use Rattle.promises.specs.Demand3.{Demand3, NoCallLost, ByTheFunctions, RunsExist, SinglesFollow, ServedTruly}
 use Rattle.promises.specs.Standing.{Called, Deed}
 use Rattle.promises.specs.Whole.{Follows}
 use Rattle.promises.proofs.Orders.{ranged}
@@ -27,6 +27,9 @@ use Rattle.promises.proofs.Whole.{follows-alone}
 
 pub demand3 : Demand3
 demand3 = demand3-desk
+
+pub no-call-lost : NoCallLost
+no-call-lost = loses-none-desk
 
 begins-at : (c : ℕ) → counterFrom c ≡ pick (within 1 7 c) c 1
 unfolding counterFrom

@@ -9,7 +9,7 @@ use Rattle.line.specs.Lists.{Each}
 use Rattle.line.specs.Desk.{passAt}
 use Rattle.line.specs.Stand.{Stand, calls, trace}
 use Rattle.line.specs.Transfers.{OneTransfer}
-use Rattle.line.specs.Alone.{Demand3Of, listedOf}
+use Rattle.line.specs.Alone.{Demand3Of, LosesNone, listedOf}
 use Rattle.line.specs.Alone as line
 use Rattle.transfer.specs.Coe.{Told, coeMachine}
 use Rattle.desk.specs.Record.{counterFrom}
@@ -23,6 +23,10 @@ use Rattle.promises.specs.Whole.{Follows}
 -- the shipped desk has it
 abbrev pub Demand3 : Type 0
 Demand3 = Demand3Of deskStand isAnswered
+
+-- and what it lists has every accepted call: those for a seat are, in their order, those of the transfers that entered there
+abbrev pub NoCallLost : Type 0
+NoCallLost = LosesNone deskStand isAnswered
 
 -- The shipped desk is what the functions give. `enter` and `leave` ensure `Gives`, `send` and `receive` ensure `GivesLent`: the answer,
 -- the record and the lent buffer that they give are the stand's. `client::run` makes such calls one after another, and its contract is
