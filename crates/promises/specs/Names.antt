@@ -37,15 +37,8 @@ types = (0, Err) ∷ (1, Aoe) ∷ (2, Eoe) ∷ (3, Coe) ∷ (4, Foe) ∷ (5, Soe
 -- "services 1-8"
 abbrev pub services : List (ℕ × CoeService)
 services =
-    (1, Emergency)
-    ∷ (2, SdoRequest)
-    ∷ (3, SdoResponse)
-    ∷ (4, TxPdo)
-    ∷ (5, RxPdo)
-    ∷ (6, TxPdoRemoteRequest)
-    ∷ (7, RxPdoRemoteRequest)
-    ∷ (8, SdoInformation)
-    ∷ []
+    (1, Emergency) ∷ (2, SdoRequest) ∷ (3, SdoResponse) ∷ (4, TxPdo)
+    ∷ (5, RxPdo) ∷ (6, TxPdoRemoteRequest) ∷ (7, RxPdoRemoteRequest) ∷ (8, SdoInformation) ∷ []
 
 -- "specifiers 1-4 in the source, and 0, which CiA 301 gives to a segment reply"
 abbrev pub specifiers : List (ℕ × CoeCommand)
@@ -54,14 +47,8 @@ specifiers = (0, Segment) ∷ (1, Download) ∷ (2, Upload) ∷ (3, UploadSegmen
 -- "operations 1-7"
 abbrev pub operations : List (ℕ × SdoInfoOpCode)
 operations =
-    (1, GetObjectDescriptionListRequest)
-    ∷ (2, GetObjectDescriptionListResponse)
-    ∷ (3, GetObjectDescriptionRequest)
-    ∷ (4, GetObjectDescriptionResponse)
-    ∷ (5, GetEntryDescriptionRequest)
-    ∷ (6, GetEntryDescriptionResponse)
-    ∷ (7, SdoInfoErrorRequest)
-    ∷ []
+    (1, GetObjectDescriptionListRequest) ∷ (2, GetObjectDescriptionListResponse) ∷ (3, GetObjectDescriptionRequest)
+    ∷ (4, GetObjectDescriptionResponse) ∷ (5, GetEntryDescriptionRequest) ∷ (6, GetEntryDescriptionResponse) ∷ (7, SdoInfoErrorRequest) ∷ []
 
 -- ETG.1000.6, Table 41, with the words of the Rust's abort_code.rs
 abbrev pub abortCodes : List (ℕ × CoeAbortCode)

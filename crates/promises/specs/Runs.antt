@@ -70,13 +70,6 @@ lastFragment = hex 14 0x0a00000000130080020000001122
 abbrev pub downloaded : List ℕ
 downloaded = hex 16 0x0a000000001300306060600000000000
 
-abbrev pub completelyDownloaded : List ℕ
-completelyDownloaded = hex 16 0x0a000000001300307060600100000000
-
--- five counts, in one fragment
-abbrev pub counts : List ℕ
-counts = hex 24 0x120000000013008002000000000001000200030004000501
-
 -- ---- what is told
 
 abbrev pub entered : Told
@@ -156,7 +149,8 @@ runs =
     ∷ (
       toldFrom 7
           (enter 0 completeUpload ∷ send 0 (blank 16) ∷ receive 0 (expedited, blank 5) ∷ enter 0 quantities ∷ send 0 (blank 16)
-          ∷ receive 0 (counts, blank 11) ∷ enter 0 completeDownload ∷ send 0 (blank 16) ∷ receive 0 (completelyDownloaded, blank 1) ∷ []),
+          ∷ receive 0 (hex 24 0x120000000013008002000000000001000200030004000501, blank 11) ∷ enter 0 completeDownload
+          ∷ send 0 (blank 16) ∷ receive 0 (hex 16 0x0a000000001300307060600100000000, blank 1) ∷ []),
       entered
           ∷ sent (hex 16 0x0a000000007300205018100100000000)
           ∷ (doneWith 4, hex 5 0x78563412ee)
