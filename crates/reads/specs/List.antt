@@ -1,5 +1,6 @@
 -- The object list: one item, and the whole list item by item. Assumes nothing.
 use Prim.Native.Nat.{ℕ, zero, suc, _+_, _-_, _%_, _<_}
+use mathlib.Core.Bool.{Bool}
 use mathlib.Core.List.{List, [], _∷_, _++_}
 use lib.Dec.{ltb, eqb}
 use lib.ListN.{length, getD}
@@ -9,10 +10,13 @@ use Rattle.reads.specs.Refusal.{undecodable}
 use Rattle.reads.specs.declared.list.ItemRead.{ItemRead}
 use Rattle.reads.specs.declared.list.ItemRead.the-variants.{Item, Refused}
 
+abbrev pub odd : List ℕ → Bool
+odd s = eqb (length s % 2) 1
+
 -- "an odd payload, or a position with no two bytes left, is 20". The position counts bytes.
 unfoldable pub itemAt : List ℕ → ℕ → ItemRead
 itemAt s at =
-    pick (eqb (length s % 2) 1) (Refused undecodable)
+    pick (odd s) (Refused undecodable)
     (pick (ltb (length s - at) 2) (Refused undecodable)
     (Item (wordAt s at) (at + 2)))
 
@@ -34,6 +38,10 @@ abbrev pub words : List ℕ → List ℕ
 words [] = []
 words (lo ∷ []) = []
 words (lo ∷ hi ∷ s) = value (lo ∷ hi ∷ []) ∷ words s
+
+-- the indices of a payload: "an odd payload .. is 20", and has none
+abbrev pub listed : List ℕ → List ℕ
+listed s = pick (odd s) [] (words s)
 
 -- the other way: words as bytes
 abbrev pub inBytes : List ℕ → List ℕ

@@ -3,7 +3,7 @@ use crate::list::ItemRead;
 use crate::list::item_at;
 ghost use mathlib.Core.Path.{_≡_};
 ghost use Rattle.reads.specs.List.{itemAt};
-ghost use Rattle.reads.specs.Reader.{stepFrom, movedOn};
+ghost use Rattle.reads.specs.Reader.{atStart, stepFrom, movedOn};
 
 pub struct ListReader<'a> {
     pub payload: &'a [u8],
@@ -18,7 +18,7 @@ pub struct Stepped {
 
 // A reader at the payload's start.
 pub fn new<'a>(payload: &'a [u8]) -> ListReader<'a>
-    ensures { λ r. ⌜ (r .payload ≡ payload .entry) × (r .at ≡ 0) ⌝ }
+    ensures { λ r. ⌜ r ≡ atStart (payload .entry) ⌝ }
 {
     ListReader { payload, at: 0 }
 }

@@ -1,6 +1,6 @@
--- `reads::reader::new` meets its contract: a walk of its MIR, by hand. A `ListReader` is made of the slice passed and 0, in the
--- result's
--- local. A `&[u8]` is Copy, so what it owns is had twice: for the payload at exit, and in the result, beside the facts of at.
+-- `reads::reader::new` meets its contract: a walk of its MIR, by hand. A `ListReader` is made of the slice passed and a number, in
+-- the result's local. A `&[u8]` is Copy, so what it owns is had twice: for the payload at exit, and in the result, beside the
+-- facts of at.
 -- Assumes nothing.
 use mathlib.Core.Path.{refl}
 use Prim.Native.Nat.{ℕ}
@@ -37,6 +37,7 @@ use denote.Triple.Spec.{Meets, tripleOf}
 use denote.Triple.Table.{entered}
 use denote.Triple.Walked.{says, Stays, stay-none-slice, walkOf, goes-none-slice, Walks, ends-at, walked, walk-meets}
 use denote.Exit.{yes}
+use Rattle.reads.specs.Reader.{atStart}
 use Rattle.reads.specs.declared.reader.ListReader.{ListReader}
 use Rattle.reads.proofs.reader.ListReader as T
 use Rattle.reads.proofs.reader.ListReader.Laws as T′
@@ -58,7 +59,7 @@ module _ {M : Type 1} (𝓤 : URA M) (H : Heap 𝓤) (A : Atoms 𝓤) (W : Given
   v = sliceVal (s .ptr) (length (s .now))
 
   abbrev made : ListReader
-  made = record { payload = s; at = 0 }
+  made = atStart s
 
   abbrev at : List Val × Unit {0}
   at = (v ∷ [], tt)
@@ -73,12 +74,12 @@ module _ {M : Type 1} (𝓤 : URA M) (H : Heap 𝓤) (A : Atoms 𝓤) (W : Given
   exits =
       qed W ((‵ (flft κ q) ⊛ ‵ ftrue) ∷ ‵ (owns (ShrSlice (named 0) κ u8 ∷ []) (s, tt) at) ∷ []) ∵
       suffices ! _ (ends-at 𝓤 H A new.ended stayed (new.clauses 𝓤 H A mem run) W (((κ, tt), (q, tt), tt, (s, tt), at), tt)
-      (T′.lowered made) made (tt, tt) (tt, tt)) $ says ! (refl, refl) $
+      (T′.lowered made) made (tt, tt) (tt, tt)) $ says ! refl $
       frame ! $ fsplit ! $ use1 W (‵ Own ⊛ ‵ Own) (shr-slice-copy 𝓤 H A W (named 0) κ u8 .twice s (v ∷ [])) $ split ! $
       move ! (0 ∷ 2 ∷ []) $ fjoin ! $ frame ! $
       -- [what the payload owns]: what the fields own together, of it and of at's facts, is what the struct owns
-      nothing ! $ owned ! usize (Is usize) (uint-makes 𝓤 H A W w64) 0 _ (refl, lit< tt) $ fjoin ! $ move ! (1 ∷ 0 ∷ []) $
-      fjoin ! $ by ! (own-shut 𝓤 H A W (T.the-type α) (T′.the-laws α) (s, (0, tt)))
+      nothing ! $ owned ! usize (Is usize) (uint-makes 𝓤 H A W w64) (made .at) _ (refl, lit< tt) $ fjoin ! $ move ! (1 ∷ 0 ∷ []) $
+      fjoin ! $ by ! (own-shut 𝓤 H A W (T.the-type α) (T′.the-laws α) (s, (made .at, tt)))
 
   module _ (C : Calls 𝓤 H) (Λ : Loops 𝓤 H) where
     walk : Is (ShrSlice (named 0) κ u8) s (v ∷ []) → ent 𝓤 (onEntry 𝓤 H A new.signature (κ, tt) (q, tt) (s, tt) at)
