@@ -3,4 +3,7 @@ pub mod Width
 pub mod AnyWidth
 pub mod WholeList
 pub mod Yielded
+pub mod Taking
+pub mod Again
+pub mod Within
 pub mod Counts

@@ -10,6 +10,8 @@ use Rattle.reads.specs.declared.typed.SignedRead.{SignedRead}
 use Rattle.reads.specs.declared.typed.SignedRead.the-variants as signed
 use Rattle.reads.specs.declared.list.ItemRead.{ItemRead}
 use Rattle.reads.specs.declared.list.ItemRead.the-variants as item
+use Rattle.reads.specs.declared.whole.ListRead.{ListRead}
+use Rattle.reads.specs.declared.whole.ListRead.the-variants as list
 use Rattle.reads.specs.declared.quantities.QuantitiesRead.{QuantitiesRead}
 use Rattle.reads.specs.declared.quantities.QuantitiesRead.the-variants as quantities
 
@@ -31,6 +33,10 @@ ofSigned (signed.Refused number) = (number, [])
 abbrev pub ofItem : ItemRead → Valued
 ofItem (item.Item index next) = (done, pos index ∷ pos next ∷ [])
 ofItem (item.Refused number) = (number, [])
+
+abbrev pub ofList : ListRead → Valued
+ofList (list.Items count) = (done, pos count ∷ [])
+ofList (list.Refused number) = (number, [])
 
 abbrev pub ofQuantities : QuantitiesRead → Valued
 ofQuantities (quantities.Counts c) = (done, map (λ (n : ℕ). pos n) (inOrder c))

@@ -3,11 +3,14 @@ use mathlib.Core.Path.{_≡_, refl}
 use Prim.Native.Nat.{ℕ}
 use mathlib.Core.List.{List, [], _∷_, map}
 use lib.IntN.{ℤ, pos, negℤ}
+use lib.ListN.{replicate}
 use Rattle.wire.specs.Bytes.{hex}
-use Rattle.reads.specs.Answers.{Valued, ofUnsigned, ofSigned, ofItem, ofQuantities}
+use Rattle.wire.specs.Store.{laid}
+use Rattle.reads.specs.Answers.{Valued, ofUnsigned, ofSigned, ofItem, ofList, ofQuantities}
 use Rattle.reads.specs.Typed.{unsignedRead, signedRead}
 use Rattle.reads.specs.Signed.{signedOf}
-use Rattle.reads.specs.List.{itemAt}
+use Rattle.reads.specs.List.{itemAt, listed}
+use Rattle.reads.specs.Whole.{listRead}
 use Rattle.reads.specs.Quantities.{quantitiesRead}
 
 abbrev gives : ℤ → Valued
@@ -18,6 +21,10 @@ refused = (0x20, [])
 
 abbrev minus : ℕ → ℤ
 minus n = negℤ (pos n)
+
+-- what `items` hold afterwards, of so many that all were 7
+abbrev stored : ℕ → List ℕ → Valued
+stored room payload = (0, map (λ (n : ℕ). pos n) (laid (replicate room 7) 0 (listed payload)))
 
 unfoldable pub examples : List (Valued × Valued)
 examples =
@@ -51,6 +58,15 @@ examples =
     ∷ (ofItem (itemAt (hex 4 0x00101810) 3), refused)
     -- "an odd payload": every read of it
     ∷ (ofItem (itemAt (hex 5 0x0010181060) 0), refused)
+    -- the whole list: how many indices it has, and what is stored where there is room for all, for more, for fewer and for none
+    ∷ (ofList (listRead (hex 4 0x00101810)), gives (pos 2))
+    ∷ (ofList (listRead []), gives (pos 0))
+    ∷ (ofList (listRead (hex 5 0x0010181060)), refused)
+    ∷ (stored 2 (hex 4 0x00101810), (0, pos 0x1000 ∷ pos 0x1018 ∷ []))
+    ∷ (stored 3 (hex 4 0x00101810), (0, pos 0x1000 ∷ pos 0x1018 ∷ pos 7 ∷ []))
+    ∷ (stored 1 (hex 4 0x00101810), (0, pos 0x1000 ∷ []))
+    ∷ (stored 0 (hex 4 0x00101810), (0, []))
+    ∷ (stored 2 (hex 5 0x0010181060), (0, pos 7 ∷ pos 7 ∷ []))
     -- "Quantities need 10 bytes"
     ∷ (ofQuantities (quantitiesRead (hex 10 0x01000200030004000501)), (0, pos 1 ∷ pos 2 ∷ pos 3 ∷ pos 4 ∷ pos 0x105 ∷ []))
     ∷ (ofQuantities (quantitiesRead (hex 12 0x010002000300040005010600)), (0, pos 1 ∷ pos 2 ∷ pos 3 ∷ pos 4 ∷ pos 0x105 ∷ []))

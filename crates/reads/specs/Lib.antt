@@ -3,6 +3,7 @@ pub mod Signed
 pub mod Typed
 pub mod List
 pub mod Reader
+pub mod Whole
 pub mod Quantities
 pub mod Answers
 pub mod Examples
