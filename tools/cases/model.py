@@ -141,6 +141,14 @@ def item(payload, at):
     return word(payload, at), at + 2
 
 
+def whole_list(payload, items):
+    """How many indices the payload has, or None, and what the items hold afterwards: the indices as far as there is room."""
+    if len(payload) % 2:
+        return None, items
+    indices = [word(payload, at) for at in range(0, len(payload), 2)]
+    return len(indices), indices[:len(items)] + items[len(indices):]
+
+
 def quantities(payload):
     return None if len(payload) < 10 else [word(payload, i) for i in range(0, 10, 2)]
 

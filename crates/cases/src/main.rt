@@ -58,6 +58,7 @@ fn dispatch(case: &[u8], buffer: &mut [u8]) {
         0x20 => values::typed(case),
         0x21 => values::item(case),
         0x22 => values::quantities(case),
+        0x23 => values::list(case),
         _ => show::words(b"no such case"),
     }
 }

@@ -3,6 +3,7 @@ use reads::list::ItemRead;
 use reads::quantities::QuantitiesRead;
 use reads::typed::SignedRead;
 use reads::typed::UnsignedRead;
+use reads::whole::ListRead;
 
 fn unsigned(read: UnsignedRead) {
     match read {
@@ -94,4 +95,41 @@ pub(crate) fn quantities(case: &[u8]) {
             }
         }
     }
+}
+
+fn count(read: ListRead) {
+    match read {
+        ListRead::Items(n) => {
+            show::number(0, 2);
+            show::next(n as u64, 4);
+        }
+        ListRead::Refused(n) => {
+            show::number(n as u64, 2);
+            show::next(0, 4);
+        }
+    }
+}
+
+fn indices(items: &[u16]) {
+    let mut i = 0;
+    while i < items.len() {
+        show::next(items[i] as u64, 4);
+        i += 1;
+    }
+}
+
+// All places are printed, with those that were not lent.
+fn list_into(case: &[u8], items: &mut [u16]) {
+    let room = wire::byte(case, 1) as usize;
+    if 2 <= case.len() {
+        if room <= items.len() {
+            count(reads::whole::read_list(&case[2..], &mut items[0..room]));
+            indices(items);
+        }
+    }
+}
+
+pub(crate) fn list(case: &[u8]) {
+    let mut items = [0xa5a5; 8];
+    list_into(case, &mut items);
 }
