@@ -16,6 +16,7 @@ use Rattle.reads.specs.declared.whole.Took.{Took}
 abbrev pub listRead : List ℕ → ListRead
 listRead s = pick (odd s) (Refused undecodable) (Items (length (words s)))
 
+-- what the reader gave, taken behind so many indices: how many there are then and whether there may be more, and what the items hold
 abbrev pub afterItem : ItemRead → ℕ → Took
 afterItem (item.Item index next) count = record { count = count + 1; more = true }
 afterItem (item.Refused number) count = record { count = count; more = false }

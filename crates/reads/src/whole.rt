@@ -47,6 +47,7 @@ fn take(item: ItemRead, count: usize, items: &mut [u16]) -> Took
     }
 }
 
+// A refusal ends the list: behind its last index, or at once.
 fn take_all(payload: &[u8], items: &mut [u16]) -> usize
     ensures { λ r. ⌜ (r ≡ length (listed (now (payload .entry)))) × (now (items .exit) ≡ laid (now (items .entry)) 0 (listed (now (payload .entry)))) ⌝ }
 {

@@ -184,10 +184,13 @@ module _ {M : Type 1} (𝓤 : URA M) (H : Heap 𝓤) (A : Atoms 𝓤) (W : Given
 
   -- ---- the calls: what each callee's triple binds outside, and that the caller has what it asks
 
-  abbrev to-new : New 𝓤 H A at-mem run .Ghost
-  to-new = (((κ, tt), (q, tt), tt, (s, tt), (v ∷ [], tt)), tt)
+  abbrev start : New 𝓤 H A at-mem run .Ghost
+  start = (((κ, tt), (q, tt), tt, (s, tt), (v ∷ [], tt)), tt)
 
-  goes-new : ent 𝓤 (⋆ 𝓤 H A (Tok ∷ Own ∷ [])) (New 𝓤 H A at-mem run .pre to-new)
+  abbrev to-new : Item 𝓤
+  to-new = raw (New 𝓤 H A at-mem run .pre start)
+
+  goes-new : ent 𝓤 (⋆ 𝓤 H A (Tok ∷ Own ∷ [])) (New 𝓤 H A at-mem run .pre start)
   goes-new =
       qed W (Tok ∷ Own ∷ []) ∵ nothing ! $ move ! (1 ∷ 0 ∷ []) $ join ! $ nothing ! $ move ! (2 ∷ 0 ∷ []) $ fjoin ! $
       move ! (1 ∷ 0 ∷ []) $ join ! $ frame ! $ done !
@@ -465,8 +468,7 @@ module _ {M : Type 1} (𝓤 : URA M) (H : Heap 𝓤) (A : Atoms 𝓤) (W : Given
       starts : Sq W (Spare ++ (‵ (froom S′.mir l₄ 0) ∷ ‵ (fdies S′.mir l₄) ∷ ‵ (froom reader l₃ 0) ∷ ‵ (fdies reader l₃) ∷ []) ++ Passed
           ++ (Items ys (length ys) ∷ Own ∷ Own ∷ Tok₂ ∷ Tok ∷ [])) (runs (𝓣 .C) (𝓣 .Λ) En body.t-1 (atRet En Ends))
       starts =
-          move ! (26 ∷ 23 ∷ []) $ use2 W (raw (New 𝓤 H A at-mem run .pre to-new)) goes-new $
-          calls-at ! (fm 𝓣) (New 𝓤 H A at-mem run) known-new to-new
+          move ! (26 ∷ 23 ∷ []) $ use2 W to-new goes-new $ calls-at ! (fm 𝓣) (New 𝓤 H A at-mem run) known-new start
           (and-then ! (load ! (from ! (stop !)) (look ! 19 refl)) (no-more !)) (λ u.
           use1 W (later (some (λ (r : ListReader). ((Tok ⊛ ‵ ftrue) ⊛ ‵ (B κ .own r (u ∷ []))) ⊛ raw
           (ensured 𝓤 H A new.ended (new.clauses 𝓤 H A at-mem run) (κ, tt) (s, tt) tt r)))) (id⊢ 𝓤 _) $ await ! tt $ pick ! (λ r.
