@@ -19,8 +19,9 @@ use Rattle.order_text.proofs.Lines.{head-digit, tail-good}
 use Rattle.order_text.proofs.Refused.{bad-character, odd-line, overlong-line, good-line, has-bad}
 use Rattle.order_run.specs.Turns.{Said, failed, afterLine, keptLine}
 use Rattle.order_run.specs.Printed.{linesIn, said, printed}
-use Rattle.order_run.specs.Feed.{part, nothing, St, st, Did, behind, endSaid, endKept, ended, stopped, fails, putFrame, put, after, begun, lineEnded, closed, finished, inPieces, joined}
+use Rattle.order_run.specs.Feed.{part, nothing, St, st, Did, behind, endSaid, endKept, ended, stopped, fails, putFrame, put, after, begun, lineEnded, closed, finished, inPieces, joined, stOf, AsPrinted}
 use Rattle.order_run.specs.declared.digits.Part.{Part}
+use Rattle.order_run.specs.declared.Run.{Run}
 use Rattle.order_run.proofs.Parts.{fails-room, fails-not, put-first, put-second}
 use Rattle.order_run.proofs.Characters.{after-over, after-none, after-line, after-put, after-bad, put-digit, no-line-end, end-whole, end-odd}
 use Rattle.order_run.proofs.Closing.{begun-bytes, begun-digit}
@@ -295,10 +296,10 @@ by-lines (c ∷ t) s {w} m P =
     ∙ by-lines t (put s (digitOf c)) (put-long (s .part) (digitOf c) (s .frame) ∙ m) (put-partly s c m f P)
     ∙ ap (λ (x : List ℕ). said (s .desk) (s .phase) (s .kept) (linesIn x)) (append-assoc w (c ∷ []) t))))
 
--- what is printed for pieces, from a fresh run on, is what their joined text says
-pub as-printed : (f : List ℕ) → length f ≡ 1486 → (ps : List (List ℕ))
-    → inPieces (st (emptyAt 1) 0 nothing f (replicate 4096 0)) ps ≡ printed (joined ps)
+pub as-printed : AsPrinted
 unfolding printed
-as-printed f l ps =
+as-printed r S f l ps =
     let s = st (emptyAt 1) 0 nothing f (replicate 4096 0) in
-    pieces ps s ∙ by-lines (joined ps) s l (whole [] refl (no-pairs f))
+    ap (λ (x : Run). inPieces (stOf x f (replicate 4096 0)) ps) (S .told)
+    ∙ pieces ps s
+    ∙ by-lines (joined ps) s l (whole [] refl (no-pairs f))

@@ -1,11 +1,11 @@
 -- The order program by characters, as they come: what a piece of input does to a run, and what it prints. That pieces give what the whole
--- text gives, as Printed says it by lines, is proofs/Whole. Assumes nothing.
+-- text gives, as Printed says it by lines, is `AsPrinted`, which proofs/Whole proves. Assumes nothing.
 use Prim.Native.Nat.{ℕ, _+_, _*_, _<_, _≤_}
 use mathlib.Core.Path.{_≡_}
 use mathlib.Core.Bool.{Bool, true, false}
 use mathlib.Core.List.{List, [], _∷_, _++_}
 use lib.Dec.{eqb, ltb, leb}
-use lib.ListN.{length, getD, set, take}
+use lib.ListN.{length, getD, set, take, replicate}
 use lib.Seq.{paste}
 use Rattle.wire.specs.Words.{pick}
 use Rattle.wire.specs.Store.{laid}
@@ -14,6 +14,7 @@ use Rattle.desk.specs.declared.Desk.{Desk}
 use Rattle.order_text.specs.Digits.{digitOf}
 use Rattle.order_text.specs.Lines.{hasBad, bytesOf}
 use Rattle.order_run.specs.Turns.{Said, failed, afterFrame, keptFrame, afterAll}
+use Rattle.order_run.specs.Printed.{printed}
 use Rattle.order_run.specs.declared.digits.Part.{Part}
 use Rattle.order_run.specs.declared.Run.{Run}
 use Rattle.order_run.specs.declared.Fed.{Fed}
@@ -159,3 +160,10 @@ pub record Feeds (x : Did) (n : ℕ) (r : Fed) (frame kept out out′ : List ℕ
   pub printed : out′ ≡ laid out 0 (x .text)
   pub going : Going (r .run)
   pub short : (x .st .phase ≡ 2 → ⊥) → length (x .text) ≤ 33 * n
+
+-- ---- the whole program
+
+-- from a fresh run on, with "a data buffer of 4,096 bytes", an input prints what its lines say, however it was cut when it was read
+abbrev pub AsPrinted : Type 0
+AsPrinted = (r : Run) → Starts r → (frame : List ℕ) → length frame ≡ 1486 → (ps : List (List ℕ))
+    → inPieces (stOf r frame (replicate 4096 0)) ps ≡ printed (joined ps)
