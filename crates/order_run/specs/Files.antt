@@ -33,8 +33,22 @@ use Rattle.order_text.specs.Digits.{digitOf, charOf, byteOf}
 use Rattle.order_text.specs.Lines.{hasBad, bytesOf, lineOf}
 use Rattle.order_text.specs.Text.{hexText}
 use Rattle.order_run.specs.Entry.{isForm, formOf}
-use Rattle.order_run.specs.Turns.{called, lentBack, lineText, request, afterReceive, afterReply, keptReply, afterFrame, keptFrame, afterAll}
+use Rattle.order_run.specs.Turns.{called, lentBack, lineText, textOf, request, afterReceive, afterReply, keptReply, afterFrame, keptFrame, afterAll}
 use Rattle.order_run.specs.Printed.{linesIn, said, printed}
+
+-- 01181001, and the requests that it prints
+abbrev upload : List ℕ
+upload = hex 4 0x01181001
+
+abbrev uploadRequest : List ℕ
+uploadRequest = hex 16 0x0a000000001300204018100100000000
+
+abbrev firstSegmentRequest : List ℕ
+firstSegmentRequest = hex 16 0x0a000000002300206000000000000000
+
+-- a complete size of 8, and no data
+abbrev segmentsFollow : List ℕ
+segmentsFollow = hex 16 0x0a000000001300304118100108000000
 
 unfoldable pub files : List (List ℕ × List ℕ)
 files =
@@ -53,6 +67,25 @@ files =
     ∷ (printed (hex 13 0x30313138313030310a3061300a), hex 36 0x30613030303030303030313330303230343031383130303130303030303030300a66660a)
     -- a refused reply: its number, and no payload
     ∷ (printed (hex 14 0x30313138313030310a306130300a), hex 36 0x30613030303030303030313330303230343031383130303130303030303030300a32300a)
+    -- an upload of two segments: "It prints each request", with toggle 0 and then 1, and the joined payload
+    ∷ (
+      printed (textOf (upload ∷ segmentsFollow ∷ hex 15 0x060000000013003000000000a1a2a3 ∷ hex 16 0x070000000013003011000000b1b2b3b4 ∷ [])),
+      textOf
+          (uploadRequest ∷ firstSegmentRequest ∷ hex 16 0x0a000000003300207000000000000000 ∷ hex 8 0x00a1a2a3b1b2b3b4 ∷ []),
+    )
+    -- a list: of an operation other than 2, nothing; then two fragments, the first answered 02
+    ∷ (
+      printed
+          (textOf
+          (hex 2 0x0401 ∷ hex 12 0x080000000013008001000000 ∷ hex 18 0x0c00000000130080820001000100aabbccdd ∷ hex 14 0x0a00000000130080020000001122 ∷ [])),
+      textOf (hex 16 0x08000000001300800100000001000000 ∷ hex 7 0x00aabbccdd1122 ∷ []),
+    )
+    -- an emergency and an abort: the number alone
+    ∷ (printed (textOf (upload ∷ hex 20 0x0a00000000130010000000001081110000000000 ∷ [])), textOf (uploadRequest ∷ hex 1 0x21 ∷ []))
+    ∷ (printed (textOf (upload ∷ hex 16 0x0a000000001300308018100100000206 ∷ [])), textOf (uploadRequest ∷ hex 1 0x22 ∷ []))
+    -- "a data buffer of 4,096 bytes": a complete size of 4,096 goes on, and one of 4,097 is 24
+    ∷ (printed (textOf (upload ∷ hex 16 0x0a000000001300304118100100100000 ∷ [])), textOf (uploadRequest ∷ firstSegmentRequest ∷ hex 1 0x03 ∷ []))
+    ∷ (printed (textOf (upload ∷ hex 16 0x0a000000001300304118100101100000 ∷ [])), textOf (uploadRequest ∷ hex 1 0x24 ∷ []))
     ∷ []
 
 pub files-hold : map (λ (e : List ℕ × List ℕ). e .0) files ≡ map (λ (e : List ℕ × List ℕ). e .1) files

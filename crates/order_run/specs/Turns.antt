@@ -34,6 +34,11 @@ lentBack d k b = lentAfter b (step coeMachine (viewOf d) k .1)
 unfoldable pub lineText : List ℕ → List ℕ
 lineText s = hexText s ++ (10 ∷ [])
 
+-- the text of frames, a line each
+abbrev pub textOf : List (List ℕ) → List ℕ
+textOf [] = []
+textOf (s ∷ ss) = lineText s ++ textOf ss
+
 -- the run awaits its entry (0) or a reply (1), or is over (2)
 pub record Said : Type 0 where
   pub desk : Desk
