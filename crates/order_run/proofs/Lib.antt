@@ -8,4 +8,5 @@ pub mod Feeding
 pub mod Closing
 pub mod Pieces
 pub mod Whole
+pub mod Limits
 pub mod One

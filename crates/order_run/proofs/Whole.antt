@@ -40,7 +40,7 @@ over-total : (s : St) (t : List ℕ) → s .phase ≡ 2 → total s t ≡ []
 unfolding total
 over-total s t e = rw (after-over s t e) (over-finished s e)
 
-over-said : (d : Desk) (ph : ℕ) (k : List ℕ) (ls : List (List ℕ)) → ph ≡ 2 → said d ph k ls ≡ []
+pub over-said : (d : Desk) (ph : ℕ) (k : List ℕ) (ls : List (List ℕ)) → ph ≡ 2 → said d ph k ls ≡ []
 unfolding said
 over-said d ph k [] e = rw (eq-eqb ph 2 e)
 over-said d ph k (l ∷ ls) e = rw (eq-eqb ph 2 e)
@@ -92,7 +92,7 @@ module _ (s : St) where
 -- ---- the lines of what is left, behind a line so far
 
 -- the first line of a text that begins with w, and the others
-lines-at : (w t : List ℕ) → hasBad w ≡ false → linesIn (w ++ 10 ∷ t) ≡ w ∷ linesIn t
+pub lines-at : (w t : List ℕ) → hasBad w ≡ false → linesIn (w ++ 10 ∷ t) ≡ w ∷ linesIn t
 unfolding linesIn
 lines-at [] t g = refl
 lines-at (c ∷ w) t g =
@@ -192,7 +192,7 @@ module _ (s : St) (n : s .phase ≡ 2 → ⊥) where
       ∙ ap (λ (x : List ℕ). failed (s .desk) .text ++ x) (over-finished (stopped s .st) refl)
       ∙ append-nil (failed (s .desk) .text)
 
-  said-line : (l : List ℕ) (ls : List (List ℕ)) → said (s .desk) (s .phase) (s .kept) (l ∷ ls)
+  pub said-line : (l : List ℕ) (ls : List (List ℕ)) → said (s .desk) (s .phase) (s .kept) (l ∷ ls)
       ≡ afterLine (s .phase) (s .desk) (lineOf 1486 l) (s .kept) .text
       ++ said (afterLine (s .phase) (s .desk) (lineOf 1486 l) (s .kept) .desk) (afterLine (s .phase) (s .desk) (lineOf 1486 l) (s .kept) .phase) (keptLine (s .phase) (s .desk) (lineOf 1486 l) (s .kept)) ls
   unfolding said
@@ -207,7 +207,7 @@ module _ (s : St) (n : s .phase ≡ 2 → ⊥) where
       ∙ ap (λ (x : Said). x .text ++ said (x .desk) (x .phase) (keptLine (s .phase) (s .desk) (lineOf 1486 w) (s .kept)) ls) (sym (e .0))
       ∙ ap (λ (k : List ℕ). endSaid s .text ++ said (endSaid s .desk) (endSaid s .phase) k ls) (sym (e .1))
 
-  said-bad : (l : List ℕ) (ls : List (List ℕ)) → lineOf 1486 l ≡ bad → said (s .desk) (s .phase) (s .kept) (l ∷ ls) ≡ failed (s .desk) .text
+  pub said-bad : (l : List ℕ) (ls : List (List ℕ)) → lineOf 1486 l ≡ bad → said (s .desk) (s .phase) (s .kept) (l ∷ ls) ≡ failed (s .desk) .text
   said-bad l ls e =
       said-line l ls ∙ rw e
       (ap (λ (x : List ℕ). failed (s .desk) .text ++ x) (over-said (s .desk) 2 (s .kept) ls refl) ∙ append-nil (failed (s .desk) .text))

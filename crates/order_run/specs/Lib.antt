@@ -5,3 +5,4 @@ pub mod Feed
 pub mod Examples
 pub mod One
 pub mod Files
+pub mod Limits
