@@ -5,16 +5,16 @@ use reads::typed::SignedRead;
 use reads::typed::UnsignedRead;
 use reads::whole::ListRead;
 
+// The number of a read, and the value beside it.
+fn valued(number: u8, value: u64, width: usize) {
+    show::number(number as u64, 2);
+    show::next(value, width);
+}
+
 fn unsigned(read: UnsignedRead) {
     match read {
-        UnsignedRead::Value(v) => {
-            show::number(0, 2);
-            show::next(v as u64, 8);
-        }
-        UnsignedRead::Refused(n) => {
-            show::number(n as u64, 2);
-            show::next(0, 8);
-        }
+        UnsignedRead::Value(v) => valued(0, v as u64, 8),
+        UnsignedRead::Refused(n) => valued(n, 0, 8),
     }
 }
 
@@ -29,14 +29,8 @@ fn bits(v: i32) -> u32 {
 
 fn signed(read: SignedRead) {
     match read {
-        SignedRead::Value(v) => {
-            show::number(0, 2);
-            show::next(bits(v) as u64, 8);
-        }
-        SignedRead::Refused(n) => {
-            show::number(n as u64, 2);
-            show::next(0, 8);
-        }
+        SignedRead::Value(v) => valued(0, bits(v) as u64, 8),
+        SignedRead::Refused(n) => valued(n, 0, 8),
     }
 }
 
@@ -65,13 +59,11 @@ pub(crate) fn item(case: &[u8]) {
         let at = position(case);
         match reads::list::item_at(&case[9..], at as usize) {
             ItemRead::Item { index, next } => {
-                show::number(0, 2);
-                show::next(index as u64, 4);
+                valued(0, index as u64, 4);
                 show::next(next as u64, 16);
             }
             ItemRead::Refused(n) => {
-                show::number(n as u64, 2);
-                show::next(0, 4);
+                valued(n, 0, 4);
                 show::next(at, 16);
             }
         }
@@ -82,16 +74,15 @@ pub(crate) fn quantities(case: &[u8]) {
     if 1 <= case.len() {
         match reads::quantities::read_quantities(&case[1..]) {
             QuantitiesRead::Counts(c) => {
-                show::number(0, 2);
-                show::next(c.all as u64, 4);
+                valued(0, c.all as u64, 4);
                 show::next(c.rx_pdo_mappable as u64, 4);
                 show::next(c.tx_pdo_mappable as u64, 4);
                 show::next(c.stored_for_device_replacement as u64, 4);
                 show::next(c.startup_parameters as u64, 4);
             }
             QuantitiesRead::Refused(n) => {
-                show::number(n as u64, 2);
-                show::words(b" 0000 0000 0000 0000 0000");
+                valued(n, 0, 4);
+                show::words(b" 0000 0000 0000 0000");
             }
         }
     }
@@ -99,14 +90,8 @@ pub(crate) fn quantities(case: &[u8]) {
 
 fn count(read: ListRead) {
     match read {
-        ListRead::Items(n) => {
-            show::number(0, 2);
-            show::next(n as u64, 4);
-        }
-        ListRead::Refused(n) => {
-            show::number(n as u64, 2);
-            show::next(0, 4);
-        }
+        ListRead::Items(n) => valued(0, n as u64, 4),
+        ListRead::Refused(n) => valued(n, 0, 4),
     }
 }
 
