@@ -12,18 +12,10 @@ Inv-loop items i₀ i = Unit {0}
 abbrev μ-loop : tie.MeasureT-loop
 μ-loop items i₀ i = length items - i
 
+index-fits : tie.Need-cast-next Inv-loop μ-loop
+index-fits c = omega (arith, c .shared-slice-known2 .given (c .before .before .loop .i))
+
 pub indices-spec : {M : Type 1} → statement M
-indices-spec =
-    tie.close
-    (tie.spec
-    Inv-loop
-    μ-loop
-    (λ c. tt)
-    (λ c. search needs)
-    (λ c. omega arith)
-    (λ c. omega (arith, c .shared-slice-known2 .given (c .before .before .loop .i)))
-    (λ c κs. tt)
-    (λ c. omega arith)
-    (λ c. omega arith)
-    (λ c. tt)
-    (λ c. tt))
+indices-spec {M} =
+    let rest : tie.Need-loop-holds Inv-loop μ-loop × tie.Need-mul-next Inv-loop μ-loop × tie.Need-shared-slice-read-next Inv-loop μ-loop × tie.Need-add-i Inv-loop μ-loop × tie.Need-loop-less Inv-loop μ-loop × tie.Need-loop-again Inv-loop μ-loop = search needs in
+    tie.close (search (tie.spec {M = M} Inv-loop μ-loop, rest, index-fits))

@@ -9,6 +9,9 @@ use Rattle.order_run.proofs.Parts.{none-whole}
 use Rattle.order_run.proofs.digits.whole_bytes.Statement.{statement}
 use Rattle.order_run.proofs.digits.whole_bytes.Tie as tie
 
+pairs-asked : tie.Need-pairs-requires
+pairs-asked c κs = search needs
+
 returns : tie.Need-returns
 returns c =
     let a = c .before .before .before .before .before .before .before .before .before .args in
@@ -21,12 +24,5 @@ returns-2 c = (none-whole (c .before .before .before .before .pre .1 .1 .0 .room
 
 pub whole-bytes-spec : {M : Type 1} → statement M
 whole-bytes-spec =
-    tie.close
-    (tie.spec
-    (λ c. search needs)
-    (λ c. search needs)
-    (λ c. search needs)
-    (λ c κs. search needs)
-    (λ c. search needs)
-    returns
-    returns-2)
+    let rest : tie.Need-sub-pairs × tie.Need-part-pairs-start × tie.Need-part-pairs-end × tie.Need-same-length = search needs in
+    tie.close (search (tie.spec, rest, pairs-asked, returns, returns-2))
