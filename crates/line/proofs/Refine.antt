@@ -3,7 +3,6 @@
 use mathlib.Core.Path.{_≡_, refl, sym, ap, ap₂, _∙_, subst}
 use mathlib.Core.Bool.{Bool}
 use mathlib.Core.List.{List, [], _∷_, map}
-use Prim.Native.Nat.{ℕ}
 use Rattle.line.specs.Lists.{Each, keep}
 use Rattle.line.specs.Machine.{Machine}
 use Rattle.line.specs.Line.{seated}
