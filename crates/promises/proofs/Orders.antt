@@ -1,5 +1,5 @@
 -- What an order asks for is what the table has for its kind's number. Assumes nothing.
-use mathlib.Core.Path.{_≡_, refl, sym, ap, _∙_}
+use mathlib.Core.Path.{_≡_, refl, sym, _∙_}
 use mathlib.Core.Bool.{Bool, true, false, not, false≢true}
 use mathlib.Core.List.{[], _∷_}
 use mathlib.Core.Option.{Option, none, some}
@@ -52,9 +52,9 @@ ranged low high n f g under over within =
     (λ y. rw (y, lt-leb n high (ltb-true high n y)) over)
     (λ b. rw (b, le-leb n high (ltb-false high n b)) within)))
 
-outside-is : (low high n : ℕ) → outside low high n ≡ not (within low high n)
+outside-15 : (low high n : ℕ) → pick {A = Option ℕ} (outside low high n) (some 0x15) none ≡ pick (not (within low high n)) (some 0x15) none
 unfolding outside
-outside-is low high n = ranged low high n either not (λ b. refl) refl refl
+outside-15 low high n = ranged low high n (λ a b. pick (either a b) (some 0x15) none) (λ w. pick (not w) (some 0x15) none) (λ b. refl) refl refl
 
 -- a condition that is tested before others
 before : (b c : Bool) (x : Option ℕ) → pick c (some 0x15) none ≡ x → pick (pick b true c) (some 0x15) none ≡ pick b (some 0x15) x
@@ -86,10 +86,10 @@ module _ (sub index value len budget : ℕ) where
   unfolding unfitOf kindOf firstOf
   unfit-at one = before (eqb budget 0) _ _ refl
   unfit-at two = before (eqb budget 0) _ _ refl
-  unfit-at three = before (eqb budget 0) _ _ (ap (λ (b : Bool). pick {A = Option ℕ} b (some 0x15) none) (outside-is 1 4 len))
-  unfit-at four = before (eqb budget 0) _ _ (ap (λ (b : Bool). pick {A = Option ℕ} b (some 0x15) none) (outside-is 1 5 index))
+  unfit-at three = before (eqb budget 0) _ _ (outside-15 1 4 len)
+  unfit-at four = before (eqb budget 0) _ _ (outside-15 1 5 index)
   unfit-at five = before (eqb budget 0) _ _ refl
-  unfit-at six = before (eqb budget 0) _ _ (ap (λ (b : Bool). pick {A = Option ℕ} b (some 0x15) none) (outside-is 1 4 len))
+  unfit-at six = before (eqb budget 0) _ _ (outside-15 1 4 len)
   unfit-at less = before (eqb budget 0) _ _ refl
   unfit-at (more k h) = rw (not-listed k h sub, not-within k h) (before (eqb budget 0) _ _ refl)
 

@@ -114,8 +114,8 @@ subOf Complete = 1
 subOf (Index b) = b
 
 -- "Upload packs 12, specifier 2."; complete is the bit of complete access
-abbrev pub upload : ℕ → ℕ → ℕ → ℕ → List (Name × ℕ)
-upload k complete i b =
+abbrev pub uploadFields : ℕ → ℕ → ℕ → ℕ → List (Name × ℕ)
+uploadFields k complete i b =
     front 10 k 2
     ++ (sizeIndicator, 0)
     ∷ (expedited, 0)
@@ -128,11 +128,11 @@ upload k complete i b =
 
 abbrev pub UploadPacks : Type 0
 UploadPacks = (k i : ℕ) (a : SubIndex) → k < 8 → i < 65536 → subOf a < 256
-    → Packs 12 (upload k (bitOf a) i (subOf a)) gaps (packedOf k (Upload i a))
+    → Packs 12 (uploadFields k (bitOf a) i (subOf a)) gaps (packedOf k (Upload i a))
 
 -- "Download packs 16 bytes, specifier 1, both flags set, size 4 minus its data length." The data are the value's first bytes.
-abbrev pub download : ℕ → ℕ → ℕ → ℕ → ℕ → ℕ → List (Name × ℕ)
-download k complete i b v len =
+abbrev pub downloadFields : ℕ → ℕ → ℕ → ℕ → ℕ → ℕ → List (Name × ℕ)
+downloadFields k complete i b v len =
     front 10 k 2
     ++ (sizeIndicator, 1)
     ∷ (expedited, 1)
@@ -146,11 +146,11 @@ download k complete i b v len =
 
 abbrev pub DownloadPacks : Type 0
 DownloadPacks = (k i : ℕ) (a : SubIndex) (v len : ℕ) → k < 8 → i < 65536 → subOf a < 256 → 1 ≤ len → len ≤ 4
-    → Packs 16 (download k (bitOf a) i (subOf a) v len) gaps (packedOf k (Download i a v len))
+    → Packs 16 (downloadFields k (bitOf a) i (subOf a) v len) gaps (packedOf k (Download i a v len))
 
 -- "Segment upload packs 9, specifier 3."
-abbrev pub segment : ℕ → ℕ → List (Name × ℕ)
-segment k t =
+abbrev pub segmentFields : ℕ → ℕ → List (Name × ℕ)
+segmentFields k t =
     front 10 k 2
     ++ (lastSegment, 0)
     ∷ (unusedCount, 0)
@@ -159,11 +159,11 @@ segment k t =
     ∷ []
 
 abbrev pub SegmentPacks : Type 0
-SegmentPacks = (k : ℕ) (t : Bool) → k < 8 → Packs 9 (segment k (cond t 1 0)) gaps (packedOf k (Segment t))
+SegmentPacks = (k : ℕ) (t : Bool) → k < 8 → Packs 9 (segmentFields k (cond t 1 0)) gaps (packedOf k (Segment t))
 
 -- "Information packs 14, operation 1, kind 1-5, or 0 for quantities."
-abbrev pub information : ℕ → ℕ → List (Name × ℕ)
-information k kind =
+abbrev pub informationFields : ℕ → ℕ → List (Name × ℕ)
+informationFields k kind =
     front 8 k 8
     ++ (operation, 1)
     ∷ (incomplete, 0)
@@ -176,4 +176,4 @@ abbrev pub informationGaps : List Field
 informationGaps = gaps ++ whole 9 9 ∷ []
 
 abbrev pub InformationPacks : Type 0
-InformationPacks = (k kind : ℕ) → k < 8 → kind ≤ 5 → Packs 14 (information k kind) informationGaps (packedOf k (Information kind))
+InformationPacks = (k kind : ℕ) → k < 8 → kind ≤ 5 → Packs 14 (informationFields k kind) informationGaps (packedOf k (Information kind))

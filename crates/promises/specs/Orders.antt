@@ -16,7 +16,7 @@ use Rattle.transfer.specs.Due.{firstRequest, firstReply}
 use Rattle.transfer.specs.declared.Order.{Order}
 use Rattle.transfer.specs.declared.due.Reply.{Reply}
 use Rattle.transfer.specs.declared.due.Reply.the-variants as reply
-use Rattle.promises.specs.Fields.{upload, download, information, gaps, informationGaps, Packs}
+use Rattle.promises.specs.Fields.{uploadFields, downloadFields, informationFields, gaps, informationGaps, Packs}
 
 -- ---- 15: "entry: data length not 1-4, list kind not 1-5, budget 0"
 
@@ -45,13 +45,13 @@ pub record Asking : Type 0 where
   pub reply : Reply
 
 abbrev uploads : ℕ → ℕ → ℕ → ℕ → Asking
-uploads c complete i b = record { bytes = 12; fields = upload c complete i b; skipped = gaps; reply = reply.Upload i b }
+uploads c complete i b = record { bytes = 12; fields = uploadFields c complete i b; skipped = gaps; reply = reply.Upload i b }
 
 abbrev downloads : ℕ → ℕ → ℕ → ℕ → ℕ → ℕ → Asking
-downloads c complete i b v len = record { bytes = 16; fields = download c complete i b v len; skipped = gaps; reply = reply.Download i b }
+downloads c complete i b v len = record { bytes = 16; fields = downloadFields c complete i b v len; skipped = gaps; reply = reply.Download i b }
 
 abbrev lists : ℕ → ℕ → Asking
-lists c kind = record { bytes = 14; fields = information c kind; skipped = informationGaps; reply = reply.Fragment false }
+lists c kind = record { bytes = 14; fields = informationFields c kind; skipped = informationGaps; reply = reply.Fragment false }
 
 -- with the counter c
 abbrev pub asks : Order → ℕ → List (Bool × Asking)
@@ -71,7 +71,7 @@ pub record Asked (a : Asking) (frame : List ℕ) (r : Reply) : Type 0 where
   pub packs : Packs (a .bytes) (a .fields) (a .skipped) frame
   pub held : r ≡ a .reply
 
--- of every order that is not answered 15, at every counter: Standing has the first request of a transfer and its reply from here
+-- of every order that is not answered 15, at every counter: the first request and reply, which Standing takes, are the table's
 abbrev pub AsksAsListed : Type 0
 AsksAsListed = (o : Order) (c : ℕ) → c < 8 → o .index < 65536 → o .sub < 256 → Fit o
     → (a : Asking) × (firstOf (asks o c) ≡ some a) × Asked a (packedOf c (firstRequest o)) (firstReply o)

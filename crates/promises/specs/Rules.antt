@@ -11,8 +11,8 @@ use lib.ListN.{length, take, drop}
 use Rattle.wire.specs.Words.{pick, both, either, firstOf}
 use Rattle.wire.specs.Fields.{read}
 use Rattle.mailbox.specs.Fields.{Name, the, lengthField, mailboxType, service, expedited, size, specifier, index, subIndex, lastSegment, unusedCount, operation, incomplete}
-use Rattle.judge.specs.Answers.{oneOf}
 use Rattle.mailbox.specs.declared.sub_index.SubIndex.{SubIndex}
+use Rattle.judge.specs.Answers.{oneOf}
 use Rattle.services.specs.Requests.{packedOf, answered}
 use Rattle.services.specs.declared.Request.the-variants.{Upload, Download, Segment, Information}
 use Rattle.transfer.specs.Due.{dueOf, requestDue, awaitingOf}
