@@ -7,7 +7,7 @@ use lib.Dec.{eqb, ltb}
 use lib.ListN.{length, take, replicate}
 use Rattle.wire.specs.Words.{pick, within}
 use Rattle.line.specs.Line.{Line}
-use Rattle.line.specs.Desk.{passAt, freshAt}
+use Rattle.line.specs.Desk.{firstCounter, passAt, freshAt}
 use Rattle.line.specs.Desk as line
 use Rattle.line.specs.Sound.{Sound}
 use Rattle.transfer.specs.declared.Transfer.{Transfer}
@@ -62,9 +62,9 @@ pub record Good (d : Desk) : Type 0 where
   pub sound : Sound (viewOf d .line)
   pub counts : within 1 7 (d .counter) ≡ true
 
--- "A fresh desk sends 1; 7 is followed by 1." A desk can begin at any of these counters; another number stands for 1.
+-- "A fresh desk sends 1; 7 is followed by 1." A desk can begin at any of these counters; another number stands for the first.
 unfoldable pub counterFrom : ℕ → ℕ
-counterFrom c = pick (ltb c 1) 1 (pick (ltb 7 c) 1 c)
+counterFrom c = pick (ltb c 1) firstCounter (pick (ltb 7 c) firstCounter c)
 
 -- ---- what the private functions do
 

@@ -19,13 +19,16 @@ use transfer::Order;
 use transfer::Sending;
 use transfer::Start;
 use transfer::Step;
-ghost use Rattle.line.specs.Desk.{Call};
+ghost use Rattle.line.specs.Desk.{firstCounter, Call};
 ghost use Rattle.desk.specs.Record.{Good, counterFrom};
 ghost use Rattle.desk.specs.Calls.{Fresh, Gives, GivesLent};
 ghost use Rattle.desk.specs.Change.{Changes, ChangesLent};
 
 pub mod change;
 pub mod record;
+
+// "A fresh desk sends 1"
+pub const FIRST_COUNTER: u8 = 1;
 
 // The line in the first `waiting` slots, by order of entry, and blanks behind it; the counter of the next frame.
 #[repr(C)]
@@ -43,23 +46,23 @@ pub struct Called {
 }
 
 impl Desk {
-    // Nobody in the line; the next frame has that counter, or 1 where it is not 1 to 7.
+    // Nobody in the line; the next frame has that counter, or the first one where it is not 1 to 7.
     pub fn fresh_at(counter: u8) -> Desk
         ensures { λ r. ⌜ Fresh (counterFrom counter) r ⌝ }
     {
         if counter < 1 {
-            return empty(1);
+            return empty(FIRST_COUNTER);
         }
         if 7 < counter {
-            return empty(1);
+            return empty(FIRST_COUNTER);
         }
         empty(counter)
     }
 
     pub fn fresh() -> Desk
-        ensures { λ r. ⌜ Fresh 1 r ⌝ }
+        ensures { λ r. ⌜ Fresh firstCounter r ⌝ }
     {
-        empty(1)
+        empty(FIRST_COUNTER)
     }
 
     pub fn enter(self, seat: u8, order: Order) -> Called

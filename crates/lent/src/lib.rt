@@ -5,7 +5,7 @@ use desk::change::Change;
 use judge::Answer;
 use order::order_from;
 ghost use mathlib.Core.Path.{_≡_};
-ghost use Rattle.line.specs.Desk.{Call};
+ghost use Rattle.line.specs.Desk.{firstCounter, Call};
 ghost use Rattle.desk.specs.Record.{Good};
 ghost use Rattle.desk.specs.Calls.{Fresh, Gives, GivesLent};
 ghost use Rattle.desk.specs.Change.{Within, Changes, calledBy};
@@ -95,7 +95,7 @@ pub fn leave(desk: &mut Desk, seat: u8) -> Answer
 
 // Whatever stood in the record, it is a fresh desk.
 pub fn fresh(desk: &mut Desk)
-    ensures { λ _. ⌜ Fresh 1 (now (desk .exit)) ⌝ }
+    ensures { λ _. ⌜ Fresh firstCounter (now (desk .exit)) ⌝ }
 {
     *desk = Desk::fresh();
 }

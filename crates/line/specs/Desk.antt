@@ -19,8 +19,11 @@ abbrev pub passAt : ℕ → Pass
 passAt c = record { counter = c }
 
 -- "A fresh desk sends 1"
+abbrev pub firstCounter : ℕ
+firstCounter = 1
+
 abbrev pub first : Pass
-first = passAt 1
+first = passAt firstCounter
 
 -- one frame later
 abbrev pub counted : Pass → Pass

@@ -1,7 +1,9 @@
 // The desk over the record that the host lends: the calls of lent, exported.
 use desk::Desk;
 use judge::Answer;
-ghost use Rattle.line.specs.Desk.{Call};
+use transfer::entry::DEFAULT_BUDGET;
+ghost use Rattle.line.specs.Desk.{firstCounter, Call};
+ghost use Rattle.transfer.specs.Entry.{defaultBudget};
 ghost use Rattle.desk.specs.Record.{Good};
 ghost use Rattle.desk.specs.Calls.{Fresh, Gives, GivesLent};
 ghost use Rattle.lent.specs.Order.{orderFrom};
@@ -9,7 +11,7 @@ ghost use Rattle.lent.specs.Found.{found};
 
 #[no_mangle]
 pub extern "C" fn coe_desk_fresh(desk: &mut Desk)
-    ensures { λ _. ⌜ Fresh 1 (now (desk .exit)) ⌝ }
+    ensures { λ _. ⌜ Fresh firstCounter (now (desk .exit)) ⌝ }
 {
     lent::fresh(desk)
 }
@@ -25,9 +27,9 @@ pub extern "C" fn coe_desk_enter(
     bytes: &[u8],
 ) -> Answer
     requires { ⌜ Good (now desk) ⌝ }
-    ensures { λ r. ⌜ Gives (now (desk .entry)) (Call.enter seat (orderFrom kind index sub (now (bytes .entry)) 65535)) (found r (now (desk .exit))) ⌝ }
+    ensures { λ r. ⌜ Gives (now (desk .entry)) (Call.enter seat (orderFrom kind index sub (now (bytes .entry)) defaultBudget)) (found r (now (desk .exit))) ⌝ }
 {
-    lent::enter(desk, seat, kind, index, sub, bytes, 65535)
+    lent::enter(desk, seat, kind, index, sub, bytes, DEFAULT_BUDGET)
 }
 
 #[no_mangle]

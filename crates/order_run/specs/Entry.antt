@@ -7,20 +7,19 @@ use lib.Dec.{eqb, ltb, leb}
 use lib.ListN.{length}
 use Rattle.wire.specs.Words.{pick}
 use Rattle.wire.specs.Bytes.{byteAt, wordAt, longAt}
+use Rattle.transfer.specs.Entry.{defaultBudget}
 use Rattle.transfer.specs.declared.Order.{Order}
 use Rattle.order_run.specs.declared.entry.Form.{Form}
 use Rattle.order_run.specs.declared.entry.Form.the-variants.{Listed, Unlisted}
-
--- "budget 65,535, the default"
-abbrev pub budget : ℕ
-budget = 65535
 
 -- a frame of least to most bytes that begins with the number of a form
 unfoldable pub isForm : ℕ → ℕ → ℕ → List ℕ → Bool
 isForm form least most s = pick (eqb (byteAt s 0) form) (pick (ltb (length s) least) false (leb (length s) most)) false
 
+-- "budget 65,535, the default"
 abbrev pub orderWith : ℕ → ℕ → ℕ → ℕ → ℕ → Order
-orderWith kind sub index value len = record { kind = kind; sub = sub; index = index; value = value; len = len; budget = budget }
+orderWith kind sub index value len =
+    record { kind = kind; sub = sub; index = index; value = value; len = len; budget = defaultBudget }
 
 -- the data are what stands behind the sub-index; that they are 1 to 4 bytes is the desk's to judge, as 15
 abbrev pub downloadOf : List ℕ → Form

@@ -1,11 +1,9 @@
 // Line one of an order file: the listed forms, and the order that each asks for.
 use transfer::Order;
+use transfer::entry::DEFAULT_BUDGET;
 ghost use mathlib.Core.Path.{_≡_};
 ghost use mathlib.Core.Bool.{true};
 ghost use Rattle.order_run.specs.Entry.{isForm, orderWith, downloadOf, formOf};
-
-// "budget 65,535, the default"
-pub const BUDGET: u16 = 65535;
 
 pub enum Form {
     Listed(Order),
@@ -33,7 +31,7 @@ fn listed(kind: u8, sub: u8, index: u16) -> Form
         index,
         value: 0,
         len: 0,
-        budget: BUDGET,
+        budget: DEFAULT_BUDGET,
     })
 }
 
@@ -47,7 +45,7 @@ fn download(frame: &[u8]) -> Form
         index: wire::word_at(frame, 1),
         value: wire::long_at(frame, 4),
         len: (frame.len() - 4) as u8,
-        budget: BUDGET,
+        budget: DEFAULT_BUDGET,
     })
 }
 

@@ -11,6 +11,10 @@ use Rattle.transfer.specs.declared.Transfer.{Transfer}
 use Rattle.transfer.specs.declared.entry.Kind.{Kind}
 use Rattle.transfer.specs.declared.entry.Kind.the-variants.{Upload, Download, ObjectList, Quantities, Unlisted}
 
+-- "budget 65,535, the default"
+abbrev pub defaultBudget : ℕ
+defaultBudget = 65535
+
 -- the kinds by number; "Complete access sets its bit and sub-index 1", whatever sub-index the order has
 unfoldable pub kindOf : ℕ → ℕ → Kind
 kindOf kind sub =

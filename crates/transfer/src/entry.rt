@@ -6,6 +6,9 @@ use mailbox::sub_index::SubIndex;
 ghost use mathlib.Core.Path.{_≡_};
 ghost use Rattle.transfer.specs.Entry.{kindOf, outside, unfitOf, openedOf};
 
+// "budget 65,535, the default"
+pub const DEFAULT_BUDGET: u16 = 65535;
+
 pub enum Kind {
     Upload(SubIndex),
     Download(SubIndex),
