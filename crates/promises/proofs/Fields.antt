@@ -14,7 +14,7 @@ use Rattle.wire.proofs.Fields.{Row, cut, length-packed, bytes-bits, read-packed
 use Rattle.mailbox.specs.Fields.{Name, place, the}
 use Rattle.mailbox.specs.declared.sub_index.SubIndex.the-variants.{Complete, Index}
 use Rattle.services.specs.Requests.{packedOf, cutTo}
-use Rattle.promises.specs.Fields.{whole, ReadsLowFirst, LaidOut, widths, Packs, UploadPacks, DownloadPacks, SegmentPacks, InformationPacks}
+use Rattle.promises.specs.Fields.{whole, ReadsLowFirst, LaidOut, covers, Packs, UploadPacks, DownloadPacks, SegmentPacks, InformationPacks}
 
 pub laid-out : LaidOut
 laid-out = refl
@@ -52,7 +52,7 @@ abbrev clearIn : ℕ → Filled → List Field → Bool
 clearIn n rows [] = true
 clearIn n rows (g ∷ gs) = both (both (clearOf rows g) (leb (end g) (8 * n))) (clearIn n rows gs)
 
-parts : (a b : Bool) → T (both a b) → T a × T b
+pub parts : (a b : Bool) → T (both a b) → T a × T b
 parts true b t = (tt, t)
 parts false b t = absurd t
 
@@ -72,14 +72,14 @@ skipped-zero n rows (g ∷ gs) t =
 module _ (n : ℕ) (rows : Filled) (fields : List (Name × ℕ)) (gs : List Field) where
   packs : T (laidOut 0 rows (8 * n)) → T (clearIn n rows gs)
       → map (λ (r : Name × ℕ). the (r .0) (packed n rows)) fields ≡ map (λ (r : Row). read (r .0) (packed n rows)) rows
-      → widths (map (λ (r : Name × ℕ). place (r .0)) fields ++ gs) ≡ 8 * n
+      → covers (8 * n) (map (λ (r : Name × ℕ). place (r .0)) fields ++ gs) ≡ true
       → cut rows ≡ map (λ (r : Name × ℕ). r .1) fields
       → Packs n fields gs (packed n rows)
-  packs o c same wide values =
+  packs o c same each values =
       record {
         long = length-packed n rows;
         holds = same ∙ read-packed n rows o ∙ values;
-        every-bit = wide;
+        every-bit = each;
         else-zero = skipped-zero n rows gs c;
       }
 

@@ -1,4 +1,5 @@
 pub mod Fields
+pub mod Packed
 pub mod Orders
 pub mod Lines
 pub mod Names

@@ -8,6 +8,7 @@ use Rattle.wire.proofs.One.{one}
 use Rattle.judge.specs.Answers.{plainOf}
 use Rattle.promises.specs.One.{Unique}
 use Rattle.promises.specs.Standing.{Deed}
+use Rattle.promises.proofs.Packed.{packs-one}
 
 -- what was told of call n
 told : ℕ → List Deed → Told
@@ -36,4 +37,5 @@ unique = record {
         ap (λ (xs : List Deed). told 1 xs .1) same i,
         ap (λ (xs : List Deed). told 2 xs .1) same i,
       );
+  packs = packs-one;
 }

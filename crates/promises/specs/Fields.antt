@@ -1,12 +1,14 @@
 -- Document 01, "Layouts", a second time: each field where the document's words have it, and what a request's fields hold. The
 -- statements say that the table of `mailbox` and the frames of `services` are these. Assumes nothing.
 use mathlib.Core.Path.{_≡_}
-use mathlib.Core.Bool.{Bool, cond}
+use mathlib.Core.Bool.{Bool, true, false, cond}
 use mathlib.Core.List.{List, [], _∷_, _++_, map}
-use Prim.Native.Nat.{ℕ, _+_, _-_, _*_, _/_, _%_, _^_, _<_, _≤_}
+use Prim.Native.Nat.{ℕ, zero, suc, _+_, _-_, _*_, _/_, _%_, _^_, _<_, _≤_}
+use lib.Dec.{leb, ltb}
 use lib.ListN.{length}
+use Rattle.wire.specs.Words.{both, either}
 use Rattle.wire.specs.Bytes.{Bytes, byteAt}
-use Rattle.wire.specs.Fields.{Field, read}
+use Rattle.wire.specs.Fields.{Field, end, read}
 use Rattle.mailbox.specs.Fields.{Name, place, the, lengthField, priority, mailboxType, counter, service, sizeIndicator, expedited, size, completeAccess, specifier, index, subIndex, lastSegment, unusedCount, toggle, operation, incomplete, fragmentsLeft, listKind, expeditedData, completeSize, abortCode, emergencyCode, errorRegister}
 use Rattle.mailbox.specs.declared.sub_index.SubIndex.{SubIndex}
 use Rattle.mailbox.specs.declared.sub_index.SubIndex.the-variants.{Complete, Index}
@@ -78,17 +80,27 @@ LaidOut = map (λ (r : Name × Field). place (r .0)) layouts ≡ map (λ (r : Na
 
 -- ---- requests
 
-abbrev pub widths : List Field → ℕ
-widths [] = 0
-widths (f ∷ fs) = f .width + widths fs
+abbrev pub inOne : List Field → ℕ → Bool
+inOne [] bit = false
+inOne (f ∷ fs) bit = either (both (leb (f .first) bit) (ltb bit (end f))) (inOne fs bit)
+
+-- every bit below n is in one of the fields
+abbrev pub covers : ℕ → List Field → Bool
+covers zero fs = true
+covers (suc n) fs = both (inOne fs n) (covers n fs)
 
 -- A frame of so many bytes whose fields hold these numbers, and whose other bits are "skipped bits .. written 0". Both together
--- are as wide as the frame.
+-- leave out no bit of the frame.
 pub record Packs (bytes : ℕ) (fields : List (Name × ℕ)) (skipped : List Field) (frame : List ℕ) : Type 0 where
   pub long : length frame ≡ bytes
   pub holds : map (λ (r : Name × ℕ). the (r .0) frame) fields ≡ map (λ (r : Name × ℕ). r .1) fields
-  pub every-bit : widths (map (λ (r : Name × ℕ). place (r .0)) fields ++ skipped) ≡ 8 * bytes
+  pub every-bit : covers (8 * bytes) (map (λ (r : Name × ℕ). place (r .0)) fields ++ skipped) ≡ true
   pub else-zero : map (λ (f : Field). read f frame) skipped ≡ map (λ (f : Field). 0) skipped
+
+-- no second list of bytes has these fields
+abbrev pub PacksOne : Type 0
+PacksOne = (bytes : ℕ) (fields : List (Name × ℕ)) (skipped : List Field) (a b : List ℕ) → Bytes a → Bytes b
+    → Packs bytes fields skipped a → Packs bytes fields skipped b → a ≡ b
 
 -- "Requests: priority 0, type 3, service 2 (information: 8), length field 10 (information: 8)."
 abbrev pub front : ℕ → ℕ → ℕ → List (Name × ℕ)

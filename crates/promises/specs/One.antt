@@ -18,6 +18,7 @@ use Rattle.desk.specs.declared.Desk.{Desk}
 use Rattle.desk.specs.declared.change.Change.{Change}
 use Rattle.client.specs.RunSeen.{RunSeen}
 use Rattle.client.specs.declared.Seen.{Seen}
+use Rattle.promises.specs.Fields.{PacksOne}
 use Rattle.promises.specs.Standing.{Called}
 
 pub record Unique : Type 1 where
@@ -35,3 +36,5 @@ pub record Unique : Type 1 where
   pub changes-lent : (d : Desk) (k : Called) (before : List ℕ) → One (λ (r : Change × List ℕ). ChangesLent d k (r .0) before (r .1))
   pub run : (seat : ℕ) (order : Order) (frame reply buffer : List ℕ)
       → One (λ (r : Seen × List ℕ × List ℕ). RunSeen seat order frame reply buffer (r .0) (r .1) (r .2))
+  -- what is said of a packed request by its fields
+  pub packs : PacksOne
