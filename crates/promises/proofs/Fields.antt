@@ -1,20 +1,21 @@
 -- The layouts and the requests are document 01's. Assumes nothing.
-use mathlib.Core.Path.{_≡_, refl, ap, _∙_}
+use mathlib.Core.Path.{_≡_, refl, sym, ap, _∙_}
 use mathlib.Core.Bool.{Bool, true, false}
 use mathlib.Core.List.{List, [], _∷_, _++_, map}
 use Prim.Native.Nat.{ℕ, _+_, _-_, _*_, _%_, _^_, _≤_}
-use native.Mathlib.Nat.{mod-eq-of-lt, mod-lt, lt-of-lt-of-le, add-zero}
+use native.Mathlib.Nat.{mod-eq-of-lt, mod-lt, mod-mod, lt-of-lt-of-le, add-zero}
 use native.Mathlib.Omega.{arith}
 use lib.Dec.{T, leb, leb→le}
 use lib.Pow.{pow-pos, pow-mono}
 use Rattle.wire.specs.Words.{both}
-use Rattle.wire.specs.Bytes.{Bytes, value, byteAt, window}
-use Rattle.wire.specs.Fields.{Field, end, read, Filled, packed, laidOut, clearOf}
+use Rattle.wire.specs.Bytes.{bytes, Bytes, value, byteAt, window}
+use Rattle.wire.specs.Fields.{Field, end, put, read, Filled, putAll, packed, laidOut, clearOf}
 use Rattle.wire.proofs.Fields.{Row, cut, length-packed, bytes-bits, read-packed, read-skipped, read-within, read-whole}
 use Rattle.mailbox.specs.Fields.{Name, place, the}
 use Rattle.mailbox.specs.declared.sub_index.SubIndex.the-variants.{Complete, Index}
 use Rattle.services.specs.Requests.{packedOf, cutTo}
-use Rattle.promises.specs.Fields.{whole, ReadsLowFirst, LaidOut, covers, Packs, UploadPacks, DownloadPacks, SegmentPacks, InformationPacks}
+use Rattle.services.specs.declared.Request.the-variants.{Upload, Download, Segment, Information}
+use Rattle.promises.specs.Fields.{whole, ReadsLowFirst, LaidOut, covers, Packs, UploadPacks, DownloadPacks, SegmentPacks, InformationPacks, CounterCut}
 
 pub laid-out : LaidOut
 laid-out = refl
@@ -114,3 +115,25 @@ unfolding packedOf
 information-packs k kind hk h =
     let small : kind % 65536 ≡ kind = omega arith in
     packs 14 _ _ _ tt tt refl refl (rw (mod-eq-of-lt hk, small))
+
+-- ---- the counter
+
+abbrev cutRows : Filled → Filled
+cutRows rs = map (λ (r : Row). (r .0, r .1 % 2 ^ r .0 .width)) rs
+
+put-cut : (rs : Filled) (x : ℕ) → putAll rs x ≡ putAll (cutRows rs) x
+put-cut [] x = refl
+put-cut (r ∷ rs) x =
+    put-cut rs (put (r .0) (r .1) x) ∙ ap (putAll (cutRows rs)) (rw (mod-mod (r .1) (2 ^ r .0 .width)))
+
+-- rows that are the same once cut pack to the same bytes
+same-cut : (n : ℕ) (rs ts : Filled) → cutRows rs ≡ cutRows ts → packed n rs ≡ packed n ts
+unfolding packed
+same-cut n rs ts e = ap (bytes n) (put-cut rs 0 ∙ ap (λ (us : Filled). putAll us 0) e ∙ sym (put-cut ts 0))
+
+pub counter-cut : CounterCut
+unfolding packedOf
+counter-cut k (Upload i a) = same-cut 12 _ _ (rw (mod-mod k 8))
+counter-cut k (Download i a v len) = same-cut 16 _ _ (rw (mod-mod k 8))
+counter-cut k (Segment t) = same-cut 9 _ _ (rw (mod-mod k 8))
+counter-cut k (Information kind) = same-cut 14 _ _ (rw (mod-mod k 8))

@@ -13,6 +13,7 @@ use Rattle.mailbox.specs.Fields.{Name, place, the, lengthField, priority, mailb
 use Rattle.mailbox.specs.declared.sub_index.SubIndex.{SubIndex}
 use Rattle.mailbox.specs.declared.sub_index.SubIndex.the-variants.{Complete, Index}
 use Rattle.services.specs.Requests.{packedOf}
+use Rattle.services.specs.declared.Request.{Request}
 use Rattle.services.specs.declared.Request.the-variants.{Upload, Download, Segment, Information}
 
 -- "byte 4 bits 6-7": bits 4 6 7
@@ -189,3 +190,8 @@ informationGaps = gaps ++ whole 9 9 ∷ []
 
 abbrev pub InformationPacks : Type 0
 InformationPacks = (k kind : ℕ) → k < 8 → kind ≤ 5 → Packs 14 (informationFields k kind) informationGaps (packedOf k (Information kind))
+
+-- The inner writers, `pack` and `write_request` of services, take any counter: they cut it to its three bits, 8 goes out as 0 and 9
+-- as 1. What a host calls judges it first.
+abbrev pub CounterCut : Type 0
+CounterCut = (k : ℕ) (r : Request) → packedOf k r ≡ packedOf (k % 8) r
