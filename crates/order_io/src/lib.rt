@@ -74,7 +74,9 @@ pub fn turns(
     frame: &mut [u8; 1486],
     data: &mut [u8; 4096],
     out: &mut [u8; ROOM],
-) {
+) -> Run
+    ensures { λ r. ⌜ Going r ⌝ }
+{
     let mut run = order_run::start();
     let mut left = u64::MAX;
     while 0 < left {
@@ -84,4 +86,5 @@ pub fn turns(
         }
         left -= 1;
     }
+    run
 }

@@ -1,4 +1,4 @@
--- `turns` ends: it counts its turns down. The run stays one that calls made.
+-- `turns` ends: it counts its turns down. The run that it gives back is one that calls made.
 use mathlib.Core.Path.{_≡_, refl}
 use lib.ListN.{length}
 use borrow.Author.Needs.{needs}
@@ -27,6 +27,12 @@ loop-less c = search needs
 loop-again : tie.Need-loop-again Inv-loop μ-loop
 loop-again c = (c .before .before .before .before .turn .ensures, search needs)
 
+returns : tie.Need-returns Inv-loop μ-loop
+returns c = c .before .loop .inv .0
+
+returns-2 : tie.Need-returns-2 Inv-loop μ-loop
+returns-2 c = c .before .before .before .before .turn .ensures
+
 pub turns-spec : {M : Type 1} → statement M
 turns-spec =
     tie.close
@@ -40,6 +46,6 @@ turns-spec =
     loop-less
     loop-again
     (λ c. search needs)
-    (λ c. tt)
+    returns
     (λ c. search needs)
-    (λ c. tt))
+    returns-2)
