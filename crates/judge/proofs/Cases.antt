@@ -156,7 +156,7 @@ module _ (P : Verdict → Type 0) where
         segment-headers (readSegmentHeaders s) _ (a .refused) λ h.
         alarm-cases s (h .service) (h .segment .command) _ a (either-way (wrongType (h .mailbox)) _ _ (a .other) (segment-rule h p))
 
-    fragment-rule : (h : InformationHeaders) (from : ℕ)
+    pub fragment-rule : (h : InformationHeaders) (from : ℕ)
         → ((from len : ℕ) (last : Bool) → len ≤ length s - from → earlier + len ≤ n → P (Fragment from len (earlier + len) last))
         → P (fragmentOf (length s) h from earlier n)
     unfolding fragmentOf

@@ -19,7 +19,7 @@ use Rattle.judge.specs.declared.Verdict.the-variants.{Refused, Emergency
 use Rattle.judge.proofs.Cases.{Alarming, upload-cases, download-cases, segment-cases, list-cases}
 use Rattle.judge.proofs.Laid.{laid-nil, laid-front, laid-length, laid-join}
 
-part-length : (s : List ℕ) (from len : ℕ) → len ≤ length s - from → length (part s from len) ≡ len
+pub part-length : (s : List ℕ) (from len : ℕ) → len ≤ length s - from → length (part s from len) ≡ len
 part-length s from len h = simp (length-take, length-drop) (omega arith)
 
 -- ---- one reply

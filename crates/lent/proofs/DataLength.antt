@@ -6,13 +6,9 @@ use Prim.Native.Nat.{ℕ}
 use lib.Dec.{eqb, ltb}
 use lib.ListN.{length}
 use Rattle.wire.specs.Words.{pick, either}
-use Rattle.wire.proofs.Cases.{by}
+use Rattle.wire.proofs.Cases.{by, either-true}
 use Rattle.transfer.specs.Entry.{kindOf, outside, unfitOf}
 use Rattle.lent.specs.Order.{lenOf, orderFrom}
-
-either-true : (b : Bool) → either b true ≡ true
-either-true true = refl
-either-true false = refl
 
 -- 5 stands for every length above 4
 long : (n : ℕ) → outside 1 4 (lenOf n) ≡ outside 1 4 n
