@@ -4,3 +4,4 @@ pub mod Element
 pub mod Closing
 pub mod Lent
 pub mod Applied
+pub mod Thin
