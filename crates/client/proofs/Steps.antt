@@ -3,7 +3,7 @@ use mathlib.Core.Path.{_≡_, refl, sym, ap, _∙_}
 use mathlib.Core.Bool.{Bool, true, false, true≢false}
 use mathlib.Core.List.{List, [], _∷_}
 use Prim.Native.Nat.{ℕ}
-use Rattle.line.specs.Desk.{Call, Outcome, enter, send, receive, leave, step}
+use Rattle.line.specs.Desk.{firstCounter, Call, Outcome, enter, send, receive, leave, step}
 use Rattle.line.specs.Stand.{Event, trace}
 use Rattle.line.proofs.Moves.{Move, stays, joins, asks, hears, goes, move}
 use Rattle.transfer.specs.declared.Order.{Order}
@@ -56,7 +56,7 @@ module _ (d : Desk) (k : Call coeMachine) (r : Called) where
       more after ks xs (G .told) (G .lent ∙ sym (ap (λ (b : List ℕ). lentAfter b (step coeMachine (viewOf d) k .1)) z)) h
 
 -- the four calls of the client at a fresh desk, each at the record that the one before gave
-pub four : (seat : ℕ) (order : Order) (frame reply buffer frame′ buffer′ : List ℕ) (d : Desk) (a b c e : Called) → Fresh 1 d
+pub four : (seat : ℕ) (order : Order) (frame reply buffer frame′ buffer′ : List ℕ) (d : Desk) (a b c e : Called) → Fresh firstCounter d
     → Gives d (enter seat order) a
     → GivesLent (a .desk) (send seat frame) b frame frame′
     → GivesLent (b .desk) (receive seat (reply, buffer)) c buffer buffer′

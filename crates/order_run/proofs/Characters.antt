@@ -10,6 +10,7 @@ use lib.ListN.{length, getD, set, take, drop, length-take}
 use lib.Seq.{paste, paste-zero, drop-cons, getD-take}
 use borrow.Author.Tests.{eq-eqb, ne-eqb, eqb-true, eqb-false, leb-false, lt-leb, ltb-false, ltb-true}
 use Rattle.wire.proofs.Cases.{by}
+use Rattle.line.specs.Desk.{firstCounter}
 use Rattle.desk.specs.Record.{emptyAt}
 use Rattle.desk.specs.Calls.{Fresh}
 use Rattle.desk.specs.declared.Desk.{Desk}
@@ -36,7 +37,7 @@ module _ (s : St) where
 pub nothing-begun : Begun nothing
 nothing-begun = record { room = omega arith; digit = omega arith; place = λ h. omega arith }
 
-pub started : (d : Desk) (p : Part) → Fresh 1 d → p ≡ nothing → Starts (record { desk = d; phase = 0; part = p })
+pub started : (d : Desk) (p : Part) → Fresh firstCounter d → p ≡ nothing → Starts (record { desk = d; phase = 0; part = p })
 started d p F e =
     record {
       told =

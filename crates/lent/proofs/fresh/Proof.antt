@@ -22,6 +22,7 @@ use denote.Ref.{MutRef, ptr-vals}
 use denote.Steps.{only, facts, heard, nothing}
 use denote.Struct.Laws as LL
 use denote.Triple.Call.{calls-from}
+use Rattle.line.specs.Desk.{firstCounter}
 use Rattle.desk.specs.Calls.{Fresh}
 use Rattle.desk.specs.declared.Desk.{Desk}
 use Rattle.desk.proofs.Desk as T
@@ -50,8 +51,8 @@ fresh-spec 𝓤 H 𝓜 𝓖 𝓡 =
     -- [obs; the borrow; what no further parameter owns; the token; true; true]
     move ! (4 ∷ 2 ∷ 5 ∷ []) $ join ! $ join ! $ calls-from ! fm _ [] _ (core.met 𝓤 H 𝓜 𝓖 𝓡 ((tt, tt, tt, tt, tt), tt))
     (no-more !) (λ v. use1 W (later (some (λ (r : Desk). (‵ ftrue ⊛ ‵ (T.the-row .own r (v ∷ []))) ⊛
-    some (λ (ws : Unit {0}). ‵ ftrue ⊛ raw (fact 𝓤 (Fresh 1 r)))))) (id⊢ 𝓤 _) $ await ! tt $ pick ! (λ r.
-    split ! $ move ! (1 ∷ []) $ pick ! (λ ws. split ! $ move ! (1 ∷ []) $ heard ! (Fresh 1 r) (λ e. drop ! $
+    some (λ (ws : Unit {0}). ‵ ftrue ⊛ raw (fact 𝓤 (Fresh firstCounter r)))))) (id⊢ 𝓤 _) $ await ! tt $ pick ! (λ r.
+    split ! $ move ! (1 ∷ []) $ pick ! (λ ws. split ! $ move ! (1 ∷ []) $ heard ! (Fresh firstCounter r) (λ e. drop ! $
     split ! $ move ! (1 ∷ []) $ facts ! T.the-row (Is T.the-row) (shows 𝓤 H (𝓖 .A) T.the-row) r (v ∷ []) (λ is.
     -- [true; obs; the borrow; its token; room for _2 (at 4); …; _1 (at 6); …; room for _0 (at 8)]
     land ! (from ! (stop !)) (init ! 4 refl (LL.lawful T.the-type T′.the-laws 𝓤 H (𝓖 .A) W .typed r _ is .0)) $
@@ -65,5 +66,5 @@ fresh-spec 𝓤 H 𝓜 𝓖 𝓡 =
     freed ! (_ ∷ _ ∷ _ ∷ _ ∷ []) (code.function .locals) bs (just _ ∷ just _ ∷ just _ ∷ []) [] $
     move ! (3 ∷ []) $ use1 W (raw (sem 𝓤 H (𝓖 .A) ftrue)) (id⊢ 𝓤 _) $ keep ! (1 ∷ 3 ∷ 0 ∷ []) $ nothing ! $
     feqI ! (List Val) (vunit ∷ []) (vunit ∷ []) refl $
-    keeps 𝓤 H (𝓖 .A) (κs .0) (qs .0) (a .0 .name) (sem 𝓤 H (𝓖 .A) ftrue) Nothing (λ _. ftrue) (λ _ d _. Fresh 1 d) !
+    keeps 𝓤 H (𝓖 .A) (κs .0) (qs .0) (a .0 .name) (sem 𝓤 H (𝓖 .A) ftrue) Nothing (λ _. ftrue) (λ _ d _. Fresh firstCounter d) !
     tt vunit r tt e)))))))

@@ -2,6 +2,7 @@
 use mathlib.Core.Path.{refl}
 use native.Mathlib.Omega.{arith}
 use borrow.Author.Tests.{lt-ltb, le-ltb}
+use Rattle.line.specs.Desk.{firstCounter}
 use Rattle.line.proofs.Rulings.{within-of}
 use Rattle.desk.specs.Record.{counterFrom}
 use Rattle.desk.proofs.Kept.{fresh-is}
@@ -10,12 +11,12 @@ use Rattle.desk.proofs.Desk.fresh_at.Tie as tie
 
 returns : tie.Need-returns
 unfolding counterFrom
-returns c = rw (lt-ltb _ _ (c .before .if1 .taken)) (fresh-is 1 _ refl (c .empty .ensures))
+returns c = rw (lt-ltb _ _ (c .before .if1 .taken)) (fresh-is firstCounter _ refl (c .empty .ensures))
 
 returns-2 : tie.Need-returns-2
 unfolding counterFrom
 returns-2 c =
-    rw (le-ltb _ _ (c .before .before .if1 .left), lt-ltb _ _ (c .before .if2 .taken)) (fresh-is 1 _ refl (c .empty2 .ensures))
+    rw (le-ltb _ _ (c .before .before .if1 .left), lt-ltb _ _ (c .before .if2 .taken)) (fresh-is firstCounter _ refl (c .empty2 .ensures))
 
 returns-3 : tie.Need-returns-3
 unfolding counterFrom
