@@ -15,7 +15,7 @@ use Rattle.transfer.specs.Entry.{kindOf, outside, unfitAs, unfitOf}
 use Rattle.transfer.specs.Due.{firstRequest, firstReply}
 use Rattle.transfer.specs.declared.Order.{Order}
 use Rattle.transfer.specs.declared.entry.Kind.the-variants.{Unlisted}
-use Rattle.promises.specs.Orders.{unfit, Fit, Asking, asks, Asked, AsksAsListed}
+use Rattle.promises.specs.Orders.{unfit, Fit, Defaults, Asking, asks, Asked, AsksAsListed}
 use Rattle.promises.proofs.Fields.{upload-packs, download-packs, information-packs}
 
 -- a kind's number: one of the six, or none of them
@@ -109,6 +109,9 @@ is-fit o f = go (unfitOf o) (unfit-is o ∙ f)
     go : (b : Bool) → pick {A = Option ℕ} b (some 0x15) none ≡ none → b ≡ false
     go true e = cc
     go false e = refl
+
+pub defaults : Defaults
+defaults = record { counter = refl; budget = refl }
 
 -- ---- the first request and its reply
 

@@ -11,7 +11,9 @@ use Rattle.wire.specs.Words.{within, both, either, firstOf}
 use Rattle.wire.specs.Fields.{Field}
 use Rattle.mailbox.specs.Fields.{Name}
 use Rattle.services.specs.Requests.{packedOf}
+use Rattle.line.specs.Desk.{firstCounter}
 use Rattle.line.specs.Numbers.{Test}
+use Rattle.transfer.specs.Entry.{defaultBudget}
 use Rattle.transfer.specs.Due.{firstRequest, firstReply}
 use Rattle.transfer.specs.declared.Order.{Order}
 use Rattle.transfer.specs.declared.due.Reply.{Reply}
@@ -34,6 +36,14 @@ unfit o =
 
 abbrev pub Fit : Order → Type 0
 Fit o = firstOf {A = ℕ} (unfit o) ≡ none
+
+-- ---- what nobody hands in
+
+pub record Defaults : Type 0 where
+  -- "A fresh desk sends 1"
+  pub counter : firstCounter ≡ 1
+  -- "budget 65,535, the default"
+  pub budget : defaultBudget ≡ 65535
 
 -- ---- the first request and its reply
 
