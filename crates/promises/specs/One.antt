@@ -1,7 +1,7 @@
 -- Uniqueness: "that no second answer satisfies it is shown". A statement of a public function has one of the shapes below, or, of what is
--- lent and exported, one of linked/specs/One, or, of the order program, one of order_run/specs/One or order_io/specs/Shown. Each leaves one
--- answer and one content of what is lent. `tools/statements --shapes` names the shape of every public function and fails at one that has
--- none of them. Assumes nothing.
+-- lent and exported, one of linked/specs/One, or, of its callers, one of surface/specs/One, or, of the order program, one of
+-- order_run/specs/One or order_io/specs/Shown. Each leaves one answer and one content of what is lent. `tools/statements --shapes` names
+-- the shape of every public function and fails at one that has none of them. Assumes nothing.
 use mathlib.Core.Path.{_≡_}
 use mathlib.Core.Bool.{Bool}
 use mathlib.Core.List.{List}

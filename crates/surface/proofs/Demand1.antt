@@ -37,7 +37,7 @@ use Rattle.promises.proofs.Demand1.{demand1}
 use Rattle.surface.specs.Writers.{Writes}
 use Rattle.surface.specs.Judge.{answers, judgeRules, besides, placeAt, JudgesReply}
 use Rattle.surface.specs.Calls.{Does}
-use Rattle.surface.specs.Demand1.{refusal, Writer, Judge, Called1, Read, HostDemand1}
+use Rattle.surface.specs.Demand1.{refusal, Writer, Judge, SeatFree, DeskCall, Read, HostDemand1}
 use Rattle.surface.proofs.Demand3.{answers-are}
 
 -- what is said of each line of a list is said of the first that holds
@@ -133,18 +133,19 @@ judges {kind} {i} {b} {earlier} {s} {d} {r} {after} J =
 
 -- ---- the desk
 
-calls : (d : Desk) → Good d → (k : Called) (r : Answer) (after : Desk) (lent : List ℕ) → Does d k r after lent → Called1 d k r after lent
+calls : (d : Desk) → Good d → (k : Called) (r : Answer) (after : Desk) (lent : List ℕ) → Does d k r after lent → DeskCall d k r after lent
 calls d g k r after lent D =
     let told = answers-are g D in
     let J = demand1 d g k in
     let n : deskStand .answers d k .0 .number ≡ r .number = ap (λ (t : Told). t .0 .number) told in
     let l : deskStand .answers d k .1 ≡ lent = ap (λ (t : Told). t .1) told in
+    let free : SeatFree k (deskStand .next d k) → SeatFree k after = λ h. ap (λ (x : Desk). seated (seatOf k) (viewOf x .line)) (D .next) ∙ h in
     record {
       listed = ap (oneOf numbers) (sym n) ∙ J .listed;
       refusal-leaves = λ e. let z = J .refusal-leaves (ap is1x n ∙ e) in (D .next ∙ z .0, sym l ∙ z .1);
-      failure-ends = λ e.
-          let z = J .failure-ends (ap is2x n ∙ e) in
-          (ap (λ (x : Desk). seated (seatOf k) (viewOf x .line)) (D .next) ∙ z .0, sym l ∙ z .1);
+      failure-ends = λ e. let z = J .failure-ends (ap is2x n ∙ e) in (free (z .0), sym l ∙ z .1);
+      done-ends = λ e. free (J .done-ends (n ∙ e));
+      leave-ends = λ e. let z = J .leave-ends (n ∙ e) in (free (z .0), sym l ∙ z .1);
     }
 
 -- ---- the reads

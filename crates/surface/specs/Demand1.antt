@@ -36,13 +36,20 @@ Writer = Among (0x02 ∷ 0x15 ∷ 0x16 ∷ [])
 abbrev pub Judge : ℕ → List ℕ → List ℕ → Type 0
 Judge = Among (0x00 ∷ 0x01 ∷ 0x02 ∷ 0x15 ∷ 0x16 ∷ 0x20 ∷ 0x21 ∷ 0x22 ∷ 0x23 ∷ 0x24 ∷ 0x25 ∷ 0x26 ∷ [])
 
+-- "its seat is free again when it ends"
+abbrev pub SeatFree : Called → Desk → Type 0
+SeatFree k after = seated (seatOf k) (viewOf after .line) ≡ false
+
 -- a call of the desk: also the record, and the seat
-pub record Called1 (d : Desk) (k : Called) (answer : Answer) (after : Desk) (lent : List ℕ) : Type 0 where
+pub record DeskCall (d : Desk) (k : Called) (answer : Answer) (after : Desk) (lent : List ℕ) : Type 0 where
   pub listed : oneOf numbers (answer .number) ≡ true
   -- 10: "all unchanged, also for all 1x"
   pub refusal-leaves : is1x (answer .number) ≡ true → (after ≡ d) × (lent ≡ lentBy k)
   -- 20: "transfer over, buffers unchanged by this call, also for all 2x"
-  pub failure-ends : is2x (answer .number) ≡ true → (seated (seatOf k) (viewOf after .line) ≡ false) × (lent ≡ lentBy k)
+  pub failure-ends : is2x (answer .number) ≡ true → SeatFree k after × (lent ≡ lentBy k)
+  -- 00: "seat free"; 03: "buffers unchanged, seat free"
+  pub done-ends : answer .number ≡ 0x00 → SeatFree k after
+  pub leave-ends : answer .number ≡ 0x03 → SeatFree k after × (lent ≡ lentBy k)
 
 -- "Typed reads and list reads refuse with 20."
 abbrev pub Read : ℕ → Type 0
@@ -55,7 +62,7 @@ pub record HostDemand1 : Type 0 where
   pub list : (c k n : ℕ) (before after : List ℕ) → ListFrame c k before n after → Writer n before after
   pub judge : (kind i b earlier : ℕ) (s d : List ℕ) (r : Answer) (after : List ℕ) → JudgesReply kind i b earlier s d r after
       → Judge (r .number) d after
-  pub desk : (d : Desk) → Good d → (k : Called) (r : Answer) (after : Desk) (lent : List ℕ) → Does d k r after lent → Called1 d k r after lent
+  pub desk : (d : Desk) → Good d → (k : Called) (r : Answer) (after : Desk) (lent : List ℕ) → Does d k r after lent → DeskCall d k r after lent
   pub read-u8 : (s : List ℕ) → Read (readU8 s .number)
   pub read-u16 : (s : List ℕ) → Read (readU16 s .number)
   pub read-u32 : (s : List ℕ) → Read (readU32 s .number)

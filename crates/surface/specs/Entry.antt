@@ -2,14 +2,15 @@
 use mathlib.Core.Path.{_≡_}
 use mathlib.Core.Bool.{not, true}
 use mathlib.Core.List.{List, [], _∷_}
-use Prim.Native.Nat.{ℕ, _+_, _*_, _%_, _^_, _≤_, min}
+use Prim.Native.Nat.{ℕ, _%_, _^_, _≤_, min}
 use lib.Dec.{eqb}
 use lib.ListN.{length}
 use Rattle.wire.specs.Words.{within, both, either, firstOf}
-use Rattle.wire.specs.Bytes.{Bytes, value, byteAt}
+use Rattle.wire.specs.Bytes.{Bytes, value}
 use Rattle.line.specs.Numbers.{Test}
 use Rattle.transfer.specs.declared.Order.{Order}
 use Rattle.promises.specs.Orders.{unfit}
+use Rattle.surface.specs.Reads.{fourBytes}
 
 -- "enter: joins the end of the line, with kind, index, sub-index, data, and a reply budget". The order holds up to four bytes of data, the
 -- first lowest; a length of 5 stands for every one above 4.
@@ -18,7 +19,7 @@ entryOf kind index sub sent budget = record {
   kind = kind;
   sub = sub;
   index = index;
-  value = byteAt sent 0 + 256 * byteAt sent 1 + 65536 * byteAt sent 2 + 16777216 * byteAt sent 3;
+  value = fourBytes sent;
   len = min (length sent) 5;
   budget = budget;
 }

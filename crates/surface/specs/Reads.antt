@@ -11,6 +11,7 @@ use Rattle.linked.specs.declared.reading.Unsigned.{Unsigned}
 use Rattle.linked.specs.declared.reading.Signed.{Signed}
 use Rattle.linked.specs.declared.reading.Item.{Item}
 use Rattle.linked.specs.declared.reading.Quantities.{Quantities}
+use Rattle.surface.specs.declared.reading.Typed.{Typed}
 
 -- the bytes of a number from a place on, the low byte first
 abbrev pub oneByte : List ℕ → ℕ
@@ -50,6 +51,16 @@ readI16 s = signedIn 2 (twos 32768 65536 (twoFrom s 0)) s
 
 abbrev pub readI32 : List ℕ → Signed
 readI32 s = signedIn 4 (twos 2147483648 4294967296 (fourBytes s)) s
+
+abbrev pub typedIn : List ℕ → Typed
+typedIn s = record {
+  byte = readU8 s;
+  word = readU16 s;
+  long = readU32 s;
+  «signed_byte» = readI8 s;
+  «signed_word» = readI16 s;
+  «signed_long» = readI32 s;
+}
 
 -- "an odd payload, or a position with no two bytes left, is 20"; the next item stands behind this one, and a refusal leaves the position
 abbrev pub itemIn : List ℕ → ℕ → Item

@@ -1,9 +1,0 @@
--- `surface::frames::segment_frame` meets its contract: what the exported writer states, by conditions and fields.
-use borrow.Author.Needs.{needs}
-use Rattle.surface.proofs.Writers.{segment-frame}
-use Rattle.surface.proofs.frames.segment_frame.Statement.{statement}
-use Rattle.surface.proofs.frames.segment_frame.Tie as tie
-
-pub segment-frame-spec : {M : Type 1} → statement M
-segment-frame-spec = tie.close (tie.spec (λ c κs. search needs) (λ c. search needs)
-    (λ c. segment-frame _ _ (c .before .before .coe-segment-frame .ensures)))

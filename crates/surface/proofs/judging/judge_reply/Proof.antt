@@ -1,9 +1,0 @@
--- `surface::judging::judge_reply` meets its contract: what the exported judge states, by the rules.
-use borrow.Author.Needs.{needs}
-use Rattle.surface.proofs.Judge.{judges-reply}
-use Rattle.surface.proofs.judging.judge_reply.Statement.{statement}
-use Rattle.surface.proofs.judging.judge_reply.Tie as tie
-
-pub judge-reply-spec : {M : Type 1} → statement M
-judge-reply-spec = tie.close (tie.spec (λ c κs. search needs) (λ c. search needs)
-    (λ c. judges-reply _ _ _ _ _ _ (c .before .before .coe-judge .ensures)))
