@@ -27,7 +27,7 @@ use Rattle.surface.specs.Calls.{Opens, Does, EntersWithin, Sends, Receiv
 use Rattle.surface.specs.Entry.{entryOf}
 
 pub opens : (d : Desk) → Fresh firstCounter d → Opens d
-opens d F = record { empty = by-the-functions .fresh 1 d F; good = F .good }
+opens d F = record { empty = by-the-functions .fresh firstCounter d F; good = F .good }
 
 -- ---- what is entered
 

@@ -5,12 +5,13 @@ use Prim.Native.Nat.{ℕ}
 use Rattle.wire.specs.Words.{firstOf}
 use Rattle.line.specs.Lists.{Each, keep}
 use Rattle.line.specs.Desk as desk
-use Rattle.line.specs.Desk.{first, passAt}
+use Rattle.line.specs.Desk.{first}
 use Rattle.line.specs.Stand.{calls, trace}
 use Rattle.line.specs.Transfers.{listed, servedAt, madeAt}
 use Rattle.line.specs.Alone.{oneByOne, at-first}
 use Rattle.judge.specs.declared.Answer.{Answer}
 use Rattle.transfer.specs.Coe.{Told}
+use Rattle.transfer.specs.Entry.{defaultBudget}
 use Rattle.desk.specs.Record.{Good, viewOf}
 use Rattle.desk.specs.Stand.{deskStand, isAnswered}
 use Rattle.desk.specs.declared.Desk.{Desk}
@@ -29,7 +30,7 @@ use Rattle.surface.proofs.Calls.{entering-lends-none, leaving-lends-non
 
 stated-does : (d : Desk) (h : Hosted) (f : Found) → Stated d h f → Does d (callOf h) (f .answer) (f .record-after) (f .lent)
 unfolding Stated callOf
-stated-does d (enter s k i b x) f S = subst (Does d (desk.enter s (entryOf k i b x 65535)) (f .answer) (f .record-after)) (sym (S .1)) (S .0)
+stated-does d (enter s k i b x) f S = subst (Does d (desk.enter s (entryOf k i b x defaultBudget)) (f .answer) (f .record-after)) (sym (S .1)) (S .0)
 stated-does d (enterWithin s k i b x n) f S = subst (Does d (desk.enter s (entryOf k i b x n)) (f .answer) (f .record-after)) (sym (S .1)) (S .0)
 stated-does d (send s b) f S = S
 stated-does d (receive s r b) f S = S
@@ -80,7 +81,7 @@ module _ (d : Desk) (g : Good d) where
 
   found : (h : Hosted) → (f : Found) × Stated d h f
   unfolding Stated callOf
-  found (enter s k i b x) = let e = desk.enter s (entryOf k i b x 65535) in (given e [], (gives e [] (entering-lends-none (viewOf d) s _ _), refl))
+  found (enter s k i b x) = let e = desk.enter s (entryOf k i b x defaultBudget) in (given e [], (gives e [] (entering-lends-none (viewOf d) s _ _), refl))
   found (enterWithin s k i b x n) = let e = desk.enter s (entryOf k i b x n) in (given e [], (gives e [] (entering-lends-none (viewOf d) s _ _), refl))
   found (send s b) = (given (desk.send s b) _, lends (desk.send s b))
   found (receive s r b) = (given (desk.receive s (r, b)) _, lends (desk.receive s (r, b)))

@@ -5,7 +5,8 @@ use mathlib.Core.List.{List, []}
 use Prim.Native.Nat.{ℕ}
 use Rattle.wire.specs.Words.{firstOf}
 use Rattle.judge.specs.declared.Answer.{Answer}
-use Rattle.line.specs.Desk.{passAt, enter, send, receive, leave}
+use Rattle.line.specs.Desk.{first, enter, send, receive, leave}
+use Rattle.transfer.specs.Entry.{defaultBudget}
 use Rattle.desk.specs.Record.{Good, viewOf}
 use Rattle.desk.specs.Stand.{deskStand}
 use Rattle.desk.specs.declared.Desk.{Desk}
@@ -13,9 +14,9 @@ use Rattle.promises.specs.Standing.{Called}
 use Rattle.promises.specs.Table.{conditions, answerBy, bufferBy}
 use Rattle.surface.specs.Entry.{entryOf}
 
--- "A fresh desk sends 1": the record afterwards, whatever stood in it
+-- a fresh desk: the record afterwards, whatever stood in it. The values of the first counter and of the default budget are promises' `Defaults`.
 pub record Opens (after : Desk) : Type 0 where
-  pub empty : after ≡ deskStand .fresh (passAt 1)
+  pub empty : after ≡ deskStand .fresh first
   pub good : Good after
 
 -- a call k at the record d: the answer and the lent buffer by the first condition of the Table that holds, and the record that demand 3's
@@ -26,9 +27,9 @@ pub record Does (d : Desk) (k : Called) (answer : Answer) (after : Desk) (lent :
   pub next : after ≡ deskStand .next d k
   pub good : Good after
 
--- the exported functions, each by what it is handed; `coe_desk_enter` has "budget 65,535, the default"
+-- the exported functions, each by what it is handed; `coe_desk_enter` has the default budget
 abbrev pub Enters : Desk → ℕ → ℕ → ℕ → ℕ → List ℕ → Answer → Desk → Type 0
-Enters d seat kind index sub sent answer after = Does d (enter seat (entryOf kind index sub sent 65535)) answer after []
+Enters d seat kind index sub sent answer after = Does d (enter seat (entryOf kind index sub sent defaultBudget)) answer after []
 
 abbrev pub EntersWithin : Desk → ℕ → ℕ → ℕ → ℕ → List ℕ → ℕ → Answer → Desk → Type 0
 EntersWithin d seat kind index sub sent budget answer after = Does d (enter seat (entryOf kind index sub sent budget)) answer after []

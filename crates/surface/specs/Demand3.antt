@@ -5,11 +5,12 @@ use mathlib.Core.List.{List, [], _∷_, map}
 use Prim.Native.Nat.{ℕ}
 use Rattle.line.specs.Lists.{Each, keep}
 use Rattle.line.specs.Desk as desk
-use Rattle.line.specs.Desk.{passAt}
+use Rattle.line.specs.Desk.{first}
 use Rattle.line.specs.Stand.{calls, trace}
 use Rattle.line.specs.Transfers.{listed, servedAt, madeAt}
 use Rattle.line.specs.Alone.{oneByOne}
 use Rattle.judge.specs.declared.Answer.{Answer}
+use Rattle.transfer.specs.Entry.{defaultBudget}
 use Rattle.desk.specs.Record.{Good}
 use Rattle.desk.specs.Stand.{deskStand, isAnswered}
 use Rattle.desk.specs.declared.Desk.{Desk}
@@ -50,7 +51,7 @@ Session d (x ∷ xs) = Stated d (x .0) (x .1) × Session (x .1 .record-after) xs
 
 -- the desk's call, and what was told of it
 unfoldable pub callOf : Hosted → Called
-callOf (enter s k i b x) = desk.enter s (entryOf k i b x 65535)
+callOf (enter s k i b x) = desk.enter s (entryOf k i b x defaultBudget)
 callOf (enterWithin s k i b x n) = desk.enter s (entryOf k i b x n)
 callOf (send s b) = desk.send s b
 callOf (receive s r b) = desk.receive s (r, b)
@@ -61,10 +62,10 @@ seenOf xs = map (λ (x : Step). record { call = callOf (x .0); told = (x .1 .ans
 
 -- what a host saw of a session that began with `coe_desk_fresh`
 pub record Served (seen : List Deed) : Type 0 where
-  -- it is a run of the desk of which demand 3 speaks, from counter 1
-  pub run : trace deskStand (deskStand .fresh (passAt 1)) (calls seen) ≡ seen
+  -- it is a run of the desk of which demand 3 speaks, from the first counter
+  pub run : trace deskStand (deskStand .fresh first) (calls seen) ≡ seen
   -- the transfers that sent, by order of entry, are what each gets alone, one after another
-  pub alone : oneByOne deskStand (passAt 1) (map calls (listed isAnswered seen)) ≡ listed isAnswered seen
+  pub alone : oneByOne deskStand first (map calls (listed isAnswered seen)) ≡ listed isAnswered seen
   -- each of them follows demand 2's rules from its entry to its end
   pub truly : Each Follows (listed isAnswered seen)
   -- and no accepted call is lost

@@ -30,6 +30,7 @@ use denote.Triple.Clauses.{Lasts, lasts, atExit}
 use denote.Triple.Entry.{Args, alive}
 use denote.Triple.Spec.{Back, tripleOf}
 use Rattle.judge.specs.declared.Answer.{Answer}
+use Rattle.transfer.specs.Entry.{defaultBudget}
 use Rattle.desk.proofs.Desk as T
 use Rattle.judge.proofs.Answer as E
 use Rattle.judge.proofs.Answer.Laws as E′
@@ -63,7 +64,7 @@ module _ {M : Type 1} {𝓤 : URA M} {H : Heap 𝓤} {A : Atoms 𝓤} (W : Given
 module _ {M : Type 1} (𝓤 : URA M) (H : Heap 𝓤) (A : Atoms 𝓤) (W : Given 𝓤 H A) (at-mem : Memory → SProp 𝓤) (run : Routine → Fun 𝓤)
     (κs : Lfts 2) (shares : Shares 2) (a : Args f.signature κs) where
   abbrev to : Args core.signature κs
-  to = (a .0, (a .1 .0, (a .1 .1 .0, (a .1 .1 .1 .0, (a .1 .1 .1 .1 .0, (a .1 .1 .1 .1 .1 .0, (65535, tt)))))))
+  to = (a .0, (a .1 .0, (a .1 .1 .0, (a .1 .1 .1 .0, (a .1 .1 .1 .1 .0, (a .1 .1 .1 .1 .1 .0, (defaultBudget, tt)))))))
 
   abbrev y : tripleOf 𝓤 H A f.signature (f.spec 𝓤 H A at-mem run) .Ghost
   y = bound 𝓤 H A f.signature (f.spec 𝓤 H A at-mem run) (ps W) κs shares tt a tt
@@ -78,7 +79,7 @@ module _ {M : Type 1} (𝓤 : URA M) (H : Heap 𝓤) (A : Atoms 𝓤) (W : Given
       (qed W (‵ (owns (typesAt (f.signature .params) κs) a (y .0 .4)) ∷ []) ∵
       fsplit ! $ move ! (1 ∷ []) $ fsplit ! $ move ! (1 ∷ []) $ fsplit ! $ move ! (1 ∷ []) $ fsplit ! $ move ! (1 ∷ []) $
       fsplit ! $
-      move ! (1 ∷ []) $ fsplit ! $ move ! (1 ∷ []) $ owned ! u16 (Is u16) (uint-makes 𝓤 H A W w16) 65535 _ (refl, lit< tt) $
+      move ! (1 ∷ []) $ fsplit ! $ move ! (1 ∷ []) $ owned ! u16 (Is u16) (uint-makes 𝓤 H A W w16) defaultBudget _ (refl, lit< tt) $
       fjoin ! $
       move ! (1 ∷ 0 ∷ []) $ fjoin ! $ move ! (1 ∷ 0 ∷ []) $ fjoin ! $ move ! (1 ∷ 0 ∷ []) $ fjoin ! $ move ! (1 ∷ 0 ∷ []) $
       fjoin ! $
