@@ -30,8 +30,11 @@ abbrev pub aborted : ℕ → ℕ → ℕ → Finding
 aborted code i b = (record { number = 0x22; sub = b; index = i; code = code; length = 0 }, [])
 
 -- "done, payload length P"
+abbrev pub doneOf : ℕ → Answer
+doneOf p = record { number = 0x00; sub = 0; index = 0; code = 0; length = p }
+
 abbrev pub done : ℕ → List ℕ → Finding
-done p chunk = (record { number = 0x00; sub = 0; index = 0; code = 0; length = p }, chunk)
+done p chunk = (doneOf p, chunk)
 
 -- "01, 02 request due, reply due .. chunk stored, if any"
 abbrev pub thenRequest : List ℕ → Finding

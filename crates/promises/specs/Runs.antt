@@ -3,13 +3,13 @@ use mathlib.Core.List.{List, [], _∷_, _++_, map}
 use Prim.Native.Nat.{ℕ}
 use lib.ListN.{replicate}
 use Rattle.wire.specs.Bytes.{hex}
-use Rattle.judge.specs.Answers.{plainOf, doneWith}
 use Rattle.line.specs.Desk.{passAt, enter, send, receive, leave}
 use Rattle.line.specs.Stand.{trace}
 use Rattle.line.specs.Alone.{listedOf}
 use Rattle.transfer.specs.declared.Order.{Order}
 use Rattle.transfer.specs.Coe.{Told}
 use Rattle.desk.specs.Stand.{deskStand, isAnswered}
+use Rattle.promises.specs.Finding.{number, doneOf}
 use Rattle.promises.specs.Standing.{Called, Deed}
 
 abbrev pub toldFrom : ℕ → List Called → List Told
@@ -73,16 +73,16 @@ downloaded = hex 16 0x0a000000001300306060600000000000
 -- ---- what is told
 
 abbrev pub entered : Told
-entered = (plainOf 0x01, [])
+entered = (number 0x01, [])
 
 abbrev pub left : Told
-left = (plainOf 0x03, [])
+left = (number 0x03, [])
 
 abbrev pub sent : List ℕ → Told
-sent frame = (plainOf 0x02, frame)
+sent frame = (number 0x02, frame)
 
 abbrev pub refused : ℕ → List ℕ → Told
-refused n buffer = (plainOf n, buffer)
+refused n buffer = (number n, buffer)
 
 -- one frame of a transfer that is then left
 abbrev pub oneFrame : List Called
@@ -111,9 +111,9 @@ runs =
           (enter 0 (upload 2) ∷ send 0 (blank 16) ∷ receive 0 (segmentsFollow, blank 8) ∷ send 0 (blank 16) ∷ receive 0 (three, blank 8) ∷ []),
       entered
           ∷ sent (hex 16 0x0a000000001300204018100100000000)
-          ∷ (plainOf 0x01, blank 8)
+          ∷ (number 0x01, blank 8)
           ∷ sent (hex 16 0x0a000000002300206000000000000000)
-          ∷ (plainOf 0x27, blank 8)
+          ∷ (number 0x27, blank 8)
           ∷ [],
     )
     -- two segments: toggle 0, then 1; each chunk behind the one before; P is their sum
@@ -123,11 +123,11 @@ runs =
           ∷ send 0 (blank 16) ∷ receive 0 (lastFour, hex 8 0xa1a2a3eeeeeeeeee) ∷ []),
       entered
           ∷ sent (hex 16 0x0a000000006300204018100100000000)
-          ∷ (plainOf 0x01, blank 8)
+          ∷ (number 0x01, blank 8)
           ∷ sent (hex 16 0x0a000000007300206000000000000000)
-          ∷ (plainOf 0x01, hex 8 0xa1a2a3eeeeeeeeee)
+          ∷ (number 0x01, hex 8 0xa1a2a3eeeeeeeeee)
           ∷ sent (hex 16 0x0a000000001300207000000000000000)
-          ∷ (doneWith 7, hex 8 0xa1a2a3b1b2b3b4ee)
+          ∷ (doneOf 7, hex 8 0xa1a2a3b1b2b3b4ee)
           ∷ [],
     )
     -- a list of two fragments: one request, two replies
@@ -136,14 +136,14 @@ runs =
           (enter 0 list ∷ send 0 (blank 17) ∷ receive 0 (firstFragment, blank 8) ∷ receive 0 (lastFragment, hex 8 0xaabbccddeeeeeeee) ∷ []),
       entered
           ∷ sent (hex 17 0x0800000000130080010000000100000000)
-          ∷ (plainOf 0x02, hex 8 0xaabbccddeeeeeeee)
-          ∷ (doneWith 6, hex 8 0xaabbccdd1122eeee)
+          ∷ (number 0x02, hex 8 0xaabbccddeeeeeeee)
+          ∷ (doneOf 6, hex 8 0xaabbccdd1122eeee)
           ∷ [],
     )
     -- a download
     ∷ (
       toldFrom 2 (enter 0 download ∷ send 0 (blank 16) ∷ receive 0 (downloaded, blank 2) ∷ []),
-      entered ∷ sent (hex 16 0x0a000000002300202f60600008000000) ∷ (doneWith 0, blank 2) ∷ [],
+      entered ∷ sent (hex 16 0x0a000000002300202f60600008000000) ∷ (doneOf 0, blank 2) ∷ [],
     )
     -- complete access, the quantities, and complete access again: each with the frame and the reply that its kind's number stands for
     ∷ (
@@ -153,13 +153,13 @@ runs =
           ∷ send 0 (blank 16) ∷ receive 0 (hex 16 0x0a000000001300307060600100000000, blank 1) ∷ []),
       entered
           ∷ sent (hex 16 0x0a000000007300205018100100000000)
-          ∷ (doneWith 4, hex 5 0x78563412ee)
+          ∷ (doneOf 4, hex 5 0x78563412ee)
           ∷ entered
           ∷ sent (hex 16 0x08000000001300800100000000000000)
-          ∷ (doneWith 10, hex 11 0x01000200030004000501ee)
+          ∷ (doneOf 10, hex 11 0x01000200030004000501ee)
           ∷ entered
           ∷ sent (hex 16 0x0a000000002300203f60600108000000)
-          ∷ (doneWith 0, blank 1)
+          ∷ (doneOf 0, blank 1)
           ∷ [],
     )
     -- two tasks ask one drive at once: the second waits until the first is done, and gets its own record
@@ -173,12 +173,12 @@ runs =
           ∷ sent (hex 16 0x0a000000001300204018100100000000)
           ∷ refused 0x13 (blank 16)
           ∷ refused 0x13 (blank 4)
-          ∷ (plainOf 0x01, blank 8)
+          ∷ (number 0x01, blank 8)
           ∷ refused 0x13 (blank 16)
           ∷ sent (hex 16 0x0a000000002300206000000000000000)
-          ∷ (doneWith 4, hex 8 0xb1b2b3b4eeeeeeee)
+          ∷ (doneOf 4, hex 8 0xb1b2b3b4eeeeeeee)
           ∷ sent (hex 16 0x0a000000003300204018100100000000)
-          ∷ (doneWith 4, hex 4 0x78563412)
+          ∷ (doneOf 4, hex 4 0x78563412)
           ∷ [],
     )
     -- 10 to 16, each where the next would be given too, and a frame after them with the counter that was due
@@ -198,6 +198,30 @@ runs =
           ∷ sent (hex 16 0x0a000000001300204018100100000000)
           ∷ [],
     )
+    -- all eight seats, from 7 down: each is taken, the first that entered is the head, and the next one once it has left
+    ∷ (
+      toldFrom 1
+          (enter 7 (upload 1) ∷ enter 6 (upload 1) ∷ enter 5 (upload 1) ∷ enter 4 (upload 1) ∷ enter 3 (upload 1) ∷ enter 2 (upload 1)
+          ∷ enter 1 (upload 1) ∷ enter 0 (upload 1) ∷ enter 8 (upload 1) ∷ enter 7 (upload 1) ∷ enter 0 (upload 1) ∷ send 6 (blank 16)
+          ∷ send 0 (blank 16) ∷ send 7 (blank 16) ∷ leave 5 ∷ send 5 (blank 16) ∷ leave 7 ∷ send 7 (blank 16) ∷ send 4 (blank 16)
+          ∷ send 6 (blank 16) ∷ enter 7 (upload 1) ∷ send 7 (blank 16) ∷ []),
+      entered ∷ entered ∷ entered ∷ entered ∷ entered ∷ entered ∷ entered ∷ entered
+          ∷ refused 0x10 []
+          ∷ refused 0x11 []
+          ∷ refused 0x11 []
+          ∷ refused 0x13 (blank 16)
+          ∷ refused 0x13 (blank 16)
+          ∷ sent (hex 16 0x0a000000001300204018100100000000)
+          ∷ left
+          ∷ refused 0x12 (blank 16)
+          ∷ left
+          ∷ refused 0x12 (blank 16)
+          ∷ refused 0x13 (blank 16)
+          ∷ sent (hex 16 0x0a000000002300204018100100000000)
+          ∷ entered
+          ∷ refused 0x13 (blank 16)
+          ∷ [],
+    )
     ∷ []
 
 -- ---- demand 3's list
@@ -210,7 +234,7 @@ abbrev uploaded : ℕ → ℕ → List Deed
 uploaded s frame =
     did (enter s (upload 9)) entered
     ∷ did (send s (blank 16)) (sent (hex 16 frame))
-    ∷ did (receive s (expedited, blank 4)) (doneWith 4, hex 4 0x78563412)
+    ∷ did (receive s (expedited, blank 4)) (doneOf 4, hex 4 0x78563412)
     ∷ []
 
 -- calls from a fresh desk, and the transfers that are listed of them: by order of entry, each with its own accepted calls and what was told

@@ -13,7 +13,7 @@ use Rattle.services.specs.Requests.{packedOf}
 use Rattle.services.specs.Written.{fits}
 use Rattle.services.specs.declared.Request.{Request}
 use Rattle.services.specs.declared.Request.the-variants as request
-use Rattle.judge.specs.Answers.{plainOf, answerOf}
+use Rattle.judge.specs.Answers.{answerOf}
 use Rattle.judge.specs.Storage.{taken, stored}
 use Rattle.judge.specs.declared.Verdict.{Verdict}
 use Rattle.judge.specs.declared.Verdict.the-variants as verdict
@@ -25,6 +25,7 @@ use Rattle.transfer.specs.Coe.{Told, Lends, coeMachine}
 use Rattle.transfer.specs.declared.Order.{Order}
 use Rattle.transfer.specs.declared.due.Reply.{Reply}
 use Rattle.transfer.specs.declared.due.Reply.the-variants as reply
+use Rattle.promises.specs.Finding.{number}
 
 abbrev pub Called : Type 0
 Called = Call coeMachine
@@ -157,11 +158,11 @@ GivesAt o w (enter s e) t = ⊥
 GivesAt o w (send s b) t =
     (isRequest (w .due) ≡ true)
     × (fits (length b) ≡ true)
-    × (t ≡ (plainOf 0x02, inFront (packedOf (w .counter) (requestOf o w)) (length b)))
+    × (t ≡ (number 0x02, inFront (packedOf (w .counter) (requestOf o w)) (length b)))
 GivesAt o w (receive s l) t =
     (isReply (w .due) ≡ true)
     × (t ≡ (answerOf (verdictOf o w l), stored (verdictOf o w l) (l .0) (length (w .payload)) (l .1)))
-GivesAt o w (leave s) t = (isOver (w .due) ≡ false) × (t ≡ (plainOf 0x03, []))
+GivesAt o w (leave s) t = (isOver (w .due) ≡ false) × (t ≡ (number 0x03, []))
 
 -- and so for each of its calls
 unfoldable pub Goes : Order → Standing → List Deed → Type 0

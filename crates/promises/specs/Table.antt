@@ -11,7 +11,7 @@ use lib.ListN.{length}
 use Rattle.wire.specs.Words.{within, firstOf}
 use Rattle.wire.specs.Front.{inFront}
 use Rattle.services.specs.Requests.{packedOf}
-use Rattle.judge.specs.Answers.{plainOf, answerOf}
+use Rattle.judge.specs.Answers.{answerOf}
 use Rattle.judge.specs.Storage.{stored}
 use Rattle.judge.specs.declared.Answer.{Answer}
 use Rattle.line.specs.Line.{Line, seated}
@@ -24,6 +24,7 @@ use Rattle.transfer.specs.declared.Transfer.{Transfer}
 use Rattle.desk.specs.Record.{Queue, Good, viewOf}
 use Rattle.desk.specs.Stand.{lentBy, deskStand}
 use Rattle.desk.specs.declared.Desk.{Desk}
+use Rattle.promises.specs.Finding.{number}
 use Rattle.promises.specs.Orders.{unfit}
 use Rattle.promises.specs.Standing.{Called}
 
@@ -73,11 +74,11 @@ ofFirst a f (p ∷ l) = f (p .1)
 
 -- the answer, by the first condition that holds; where none does, "answers 01", "answers 02", as the reply is judged, and 03
 unfoldable pub answerBy : Queue → Called → Option ℕ → Answer
-answerBy q k (some n) = plainOf n
-answerBy q (enter s o) none = plainOf 0x01
-answerBy q (send s b) none = plainOf 0x02
-answerBy q (receive s l) none = ofFirst (plainOf 0x12) (λ t. answerOf (judged t (length (l .1)) (l .0))) (q .line)
-answerBy q (leave s) none = plainOf 0x03
+answerBy q k (some n) = number n
+answerBy q (enter s o) none = number 0x01
+answerBy q (send s b) none = number 0x02
+answerBy q (receive s l) none = ofFirst (number 0x12) (λ t. answerOf (judged t (length (l .1)) (l .0))) (q .line)
+answerBy q (leave s) none = number 0x03
 
 -- the lent buffer afterwards: "all unchanged, also for all 1x"; "writes the head's due request with the next counter"; "A frame
 -- stands at the front of the lent buffer; zeros fill the rest"; "Each call writes only its own chunk, at the sum of the earlier ones"

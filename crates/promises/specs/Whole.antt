@@ -6,7 +6,6 @@ use mathlib.Core.List.{List, [], _∷_}
 use Prim.Native.Nat.{ℕ, _+_, _≤_}
 use lib.ListN.{length}
 use Rattle.wire.specs.Words.{within}
-use Rattle.judge.specs.Answers.{plainOf, doneWith}
 use Rattle.judge.specs.Replies.{holding}
 use Rattle.line.specs.Lists.{Each, keep}
 use Rattle.line.specs.Desk.{enter, send, receive, leave}
@@ -17,6 +16,7 @@ use Rattle.desk.specs.Record.{Good}
 use Rattle.transfer.specs.Coe.{Told}
 use Rattle.desk.specs.Stand.{deskStand, isAnswered}
 use Rattle.desk.specs.declared.Desk.{Desk}
+use Rattle.promises.specs.Finding.{number, doneOf}
 use Rattle.promises.specs.Orders.{Fit}
 use Rattle.promises.specs.Standing.{Called, Deed, Standing, opened, moved, Goes}
 
@@ -37,7 +37,7 @@ unfoldable pub SumsOn : Order → Standing → Called → Told → Type 0
 SumsOn o w (enter s e) t = Unit {0}
 SumsOn o w (send s b) t = Unit {0}
 SumsOn o w (receive s l) t =
-    (t .0 .number ≡ 0x00 → t .0 ≡ doneWith (length (w .payload)))
+    (t .0 .number ≡ 0x00 → t .0 ≡ doneOf (length (w .payload)))
     × (t .0 .number ≡ 0x27 → w .replies ≡ o .budget)
 SumsOn o w (leave s) t = Unit {0}
 
@@ -82,7 +82,7 @@ pub record Follows (t : List Deed) : Type 0 where
   pub counter : ℕ  -- of its first frame
   pub rest : List Deed
   -- "Accepted, it answers 01 at any place in line."
-  pub is : t ≡ record { call = enter seat order; told = (plainOf 0x01, []) } ∷ rest
+  pub is : t ≡ record { call = enter seat order; told = (number 0x01, []) } ∷ rest
   pub fit : Fit order
   pub counts : within 1 7 counter ≡ true
   pub goes : Goes order (opened counter) rest

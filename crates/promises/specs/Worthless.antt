@@ -6,7 +6,6 @@ use mathlib.Core.List.{List, []}
 use Prim.Native.Nat.{ℕ, _+_}
 use lib.Dec.{eqb}
 use Rattle.wire.specs.Words.{pick, within, both}
-use Rattle.judge.specs.Answers.{plainOf, doneWith}
 use Rattle.judge.specs.declared.Answer.{Answer}
 use Rattle.line.specs.Lists.{Each, keep}
 use Rattle.line.specs.Desk.{Pass, send, receive}
@@ -17,6 +16,7 @@ use Rattle.line.specs.Numbers.{is1x}
 use Rattle.transfer.specs.Coe.{Told, Lends, coeMachine}
 use Rattle.desk.specs.Stand.{lentBy, deskStand, isAnswered}
 use Rattle.desk.specs.declared.Desk.{Desk}
+use Rattle.promises.specs.Finding.{number, doneOf}
 use Rattle.promises.specs.Standing.{Called, Deed}
 use Rattle.promises.specs.Whole.{Follows}
 use Rattle.promises.specs.Table.{toldBy, ConditionTable, RequestAndStorage}
@@ -80,7 +80,7 @@ refuser = record {
   State = Pass;
   fresh = λ p. p;
   pass = λ p. p;
-  answers = λ p k. (plainOf 0x10, lentBy k);
+  answers = λ p k. (number 0x10, lentBy k);
   next = λ p k. p;
 }
 
@@ -90,7 +90,7 @@ constant = record {
   State = Pass;
   fresh = λ p. p;
   pass = λ p. p;
-  answers = λ p k. (plainOf 0x02, lentBy k);
+  answers = λ p k. (number 0x02, lentBy k);
   next = λ p k. p;
 }
 
@@ -116,7 +116,7 @@ pretender = record {
   pass = λ s. deskStand .pass (s .1);
   answers = λ s k.
       let t = deskStand .answers (s .1) k in
-      changed (both (s .0) (eqb (t .0 .number) 0x00)) (λ a. doneWith 0) t;
+      changed (both (s .0) (eqb (t .0 .number) 0x00)) (λ a. doneOf 0) t;
   next = λ s k. (pick (eqb (deskStand .answers (s .1) k .0 .number) 0x00) true (s .0), deskStand .next (s .1) k);
 }
 
@@ -128,6 +128,6 @@ inventor = record {
   pass = deskStand .pass;
   answers = λ d k.
       let t = deskStand .answers d k in
-      changed (eqb (t .0 .number) 0x00) (λ a. doneWith (a .length + 1)) t;
+      changed (eqb (t .0 .number) 0x00) (λ a. doneOf (a .length + 1)) t;
   next = deskStand .next;
 }
