@@ -1,11 +1,11 @@
 -- "data length not 1-4" is said of the slice that a download is entered with, however long it is. Assumes nothing.
-use mathlib.Core.Path.{_≡_, refl, sym, ap}
-use mathlib.Core.Bool.{Bool, true, false}
+use mathlib.Core.Path.{_≡_, sym, ap}
+use mathlib.Core.Bool.{Bool, false}
 use mathlib.Core.List.{List}
 use Prim.Native.Nat.{ℕ}
 use lib.Dec.{eqb, ltb}
 use lib.ListN.{length}
-use Rattle.wire.specs.Words.{pick, either}
+use Rattle.wire.specs.Words.{pick}
 use Rattle.wire.proofs.Cases.{by, either-true}
 use Rattle.transfer.specs.Entry.{kindOf, outside, unfitOf}
 use Rattle.lent.specs.Order.{lenOf, orderFrom}

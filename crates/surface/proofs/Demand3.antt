@@ -22,7 +22,7 @@ use Rattle.promises.specs.Whole.{Follows}
 use Rattle.promises.proofs.Table.{table-at-records}
 use Rattle.promises.proofs.Demand3.{demand3, no-call-lost, served-truly, singles-follow}
 use Rattle.surface.specs.Entry.{entryOf}
-use Rattle.surface.specs.Calls.{Opens, Does}
+use Rattle.surface.specs.Calls.{Does}
 use Rattle.surface.specs.Demand3.{Hosted, enter, enterWithin, send, receive, leave, Found, Stated, Step, Session, callOf, seenOf, Served, HostDemand3, SessionsExist}
 use Rattle.surface.proofs.Calls.{entering-lends-none, leaving-lends-none}
 

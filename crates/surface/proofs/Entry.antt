@@ -1,14 +1,13 @@
 -- The order of a host's entry is refused where what was handed in is, and its data are the bytes that were handed in. Assumes nothing.
-use mathlib.Core.Path.{_≡_, refl, sym, ap, _∙_}
-use mathlib.Core.Bool.{true, false, not}
-use mathlib.Core.List.{List, _∷_}
-use Prim.Native.Nat.{ℕ, zero, suc, _+_, _*_, _%_, _^_, _≤_, min}
+use mathlib.Core.Path.{_≡_, sym, ap, _∙_}
+use mathlib.Core.List.{List}
+use Prim.Native.Nat.{ℕ, _%_, _^_, min}
 use native.Mathlib.Omega.{arith}
-use borrow.Author.Tests.{le-leb, lt-leb, leb-true, leb-false}
-use lib.Dec.{leb, eqb}
+use borrow.Author.Tests.{le-leb, leb-true, leb-false}
+use lib.Dec.{leb}
 use lib.ListN.{length}
-use Rattle.wire.specs.Words.{within, both, firstOf}
-use Rattle.wire.specs.Bytes.{Bytes, bytes, value, byteAt, longAt}
+use Rattle.wire.specs.Words.{within, firstOf}
+use Rattle.wire.specs.Bytes.{Bytes, value}
 use Rattle.wire.proofs.Cases.{by}
 use Rattle.wire.proofs.Bytes.{value-bytes, bytes-value}
 use Rattle.surface.specs.Entry.{entryOf, EntryLaws}

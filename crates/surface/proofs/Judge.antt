@@ -1,15 +1,13 @@
 -- What the exported judge states is the list of rules, the chunk's place and what is told besides. Assumes nothing.
 use mathlib.Core.Path.{_≡_, refl, sym, ap, _∙_, subst}
 use mathlib.Core.Bool.{Bool, true, false, not, false≢true}
-use mathlib.Core.List.{List, [], _∷_}
+use mathlib.Core.List.{List}
 use mathlib.Core.Option.{some}
-use Prim.Native.Nat.{ℕ, zero, suc, _+_, _-_, _≤_}
-use native.Mathlib.Omega.{arith}
-use borrow.Author.Tests.{eqb-true, eqb-false, ne-eqb}
+use Prim.Native.Nat.{ℕ, _+_, _-_, _≤_}
+use borrow.Author.Tests.{eqb-true}
 use lib.Dec.{eqb, ltb}
 use lib.ListN.{length}
 use Rattle.wire.specs.Words.{pick, either, firstOf}
-use Rattle.wire.specs.Store.{laid, part}
 use Rattle.wire.proofs.Cases.{by, either-true, either-false}
 use Rattle.mailbox.specs.Fields.{the, mailboxType, service, operation}
 use Rattle.mailbox.specs.Numbers as names
@@ -20,26 +18,25 @@ use Rattle.mailbox.specs.declared.numbers.ListedService.the-variants as ListedS
 use Rattle.mailbox.specs.declared.numbers.ListedOpCode.{ListedOpCode}
 use Rattle.mailbox.specs.declared.numbers.ListedOpCode.the-variants as ListedOpCode
 use Rattle.judge.specs.Answers.{answerOf, oneOf}
-use Rattle.judge.specs.Storage.{taken, stored}
+use Rattle.judge.specs.Storage.{stored}
 use Rattle.judge.specs.Download.{judgeDownload}
 use Rattle.judge.specs.Upload.{judgeUpload}
 use Rattle.judge.specs.Segment.{judgeSegment}
 use Rattle.judge.specs.Information.{fragmentAt, fragmentOf, judgeList}
 use Rattle.judge.specs.declared.Answer.{Answer}
 use Rattle.judge.specs.declared.Verdict.{Verdict}
-use Rattle.judge.specs.declared.Verdict.the-variants.{Refused, Emergency, Aborted, Done, SegmentsFollow, Segment, Fragment, ReplyDue}
+use Rattle.judge.specs.declared.Verdict.the-variants.{Refused, Segment, Fragment, ReplyDue}
 use Rattle.judge.specs.declared.headers.InformationHeaders.{InformationHeaders}
 use Rattle.judge.proofs.Cases.{Alarming, upload-cases, download-cases, segment-cases, fragment-rule}
 use Rattle.judge.proofs.Laid.{laid-nil}
 use Rattle.judge.proofs.Payload.{part-length}
 use Rattle.transfer.specs.Judgement.{judgeReply}
-use Rattle.transfer.specs.declared.due.Reply.{Reply}
 use Rattle.promises.specs.Finding.{number, refuse, finding}
 use Rattle.promises.specs.Rules.{under}
 use Rattle.promises.proofs.Lines.{Look, missing, present}
 use Rattle.promises.proofs.Decoded.{operation-look, informationBy, information-read}
 use Rattle.promises.proofs.Rules.{judged-by-rules}
-use Rattle.linked.specs.Judging.{unjudged, verdictFor, placeFor, begunBy, toldOf, rulingFor, givenBy, Judges}
+use Rattle.linked.specs.Judging.{unjudged, verdictFor, placeFor, begunBy, toldOf, rulingFor, Judges}
 use Rattle.surface.specs.Judge.{kinds, answers, judgeRules, besides, placeAt, JudgesReply}
 
 -- ---- what is told besides

@@ -3,7 +3,7 @@ use mathlib.Core.Path.{_≡_, refl, sym, ap, _∙_}
 use mathlib.Core.List.{List, _++_}
 use mathlib.Core.Option.{Option, none, some, Option·some-injective}
 use Prim.Native.Nat.{ℕ, _-_}
-use lib.ListN.{length, replicate}
+use lib.ListN.{replicate}
 use Rattle.wire.specs.Words.{firstOf}
 use Rattle.wire.specs.Store.{laid}
 use Rattle.wire.specs.Fields.{Field}

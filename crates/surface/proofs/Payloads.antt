@@ -1,15 +1,13 @@
 -- What the exported reads state is what the payload's bytes say. Assumes nothing.
 use mathlib.Core.Path.{_≡_, refl, sym, ap, _∙_}
-use mathlib.Core.Bool.{Bool, true, false}
-use mathlib.Core.List.{List, [], _∷_}
-use Prim.Native.Nat.{ℕ, zero, suc, _+_, _-_, _*_, _<_, _≤_, _^_}
+use mathlib.Core.List.{List}
+use Prim.Native.Nat.{ℕ, _-_, _<_, _≤_, _^_}
 use native.Mathlib.Omega.{arith}
 use borrow.Author.Tests.{ltb-false, lt-ltb}
 use lib.Dec.{ltb}
 use lib.IntN.{negsuc}
 use lib.ListN.{length, take}
-use Rattle.wire.specs.Words.{pick}
-use Rattle.wire.specs.Bytes.{Bytes, value, byteAt, window, wordAt}
+use Rattle.wire.specs.Bytes.{Bytes, value, window, wordAt}
 use Rattle.wire.proofs.Cases.{by}
 use Rattle.wire.proofs.Bytes.{window-is}
 use Rattle.reads.specs.Signed as reads

@@ -1,6 +1,6 @@
 -- The order that a host's entry brings to the desk, field by field, and what goes out of it. Assumes nothing.
 use mathlib.Core.Path.{_≡_}
-use mathlib.Core.Bool.{not, true}
+use mathlib.Core.Bool.{not}
 use mathlib.Core.List.{List, [], _∷_}
 use Prim.Native.Nat.{ℕ, _%_, _^_, _≤_, min}
 use lib.Dec.{eqb}

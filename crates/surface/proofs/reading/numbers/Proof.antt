@@ -1,6 +1,5 @@
 -- `surface::reading::numbers` meets its contract: what the exported reads state, by the payload's bytes.
 use mathlib.Core.Path.{_∙_}
-use borrow.Author.Needs.{needs}
 use denote.Ref.{now}
 use Rattle.wire.specs.Bytes.{Bytes}
 use Rattle.surface.proofs.Payloads.{u8-in, u16-in, u32-in, i8-in, i16-in, i32-in}
