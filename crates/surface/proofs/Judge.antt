@@ -49,15 +49,15 @@ alarms : (kind : ℕ) (s : List ℕ) → Alarming (Told kind s)
 unfolding toldOf answerOf besides
 alarms kind s = record { refused = refl; emergency = λ c r. refl; aborted = λ c i b. refl; other = refl }
 
-pub upload-told : (kind i b n : ℕ) (s : List ℕ) → Told kind s (judgeUpload i b n s)
+upload-told : (kind i b n : ℕ) (s : List ℕ) → Told kind s (judgeUpload i b n s)
 unfolding toldOf answerOf besides
 upload-told kind i b n s = upload-cases (Told kind s) s refl (λ from p h. refl) i b n (alarms kind s) refl refl
 
-pub download-told : (kind i b : ℕ) (s : List ℕ) → Told kind s (judgeDownload i b s)
+download-told : (kind i b : ℕ) (s : List ℕ) → Told kind s (judgeDownload i b s)
 unfolding toldOf answerOf besides
 download-told kind i b s = download-cases (Told kind s) i b s (alarms kind s) refl
 
-pub segment-told : (kind earlier n : ℕ) (s : List ℕ) → Told kind s (judgeSegment earlier n s)
+segment-told : (kind earlier n : ℕ) (s : List ℕ) → Told kind s (judgeSegment earlier n s)
 unfolding toldOf answerOf besides
 segment-told kind earlier n s = segment-cases (Told kind s) s earlier n refl refl (alarms kind s) chunk
   where
@@ -95,7 +95,7 @@ module _ (kind : ℕ) (begun : Bool) (earlier n : ℕ) (s : List ℕ) where
   decoded (ListedType.Listed t) (ListedService.Listed v) (present o k e m) =
       rw (e, k) (by (eqb (the operation s) 2) (λ y. rw y (fragment y _)) (λ x. rw x (due x)))
 
-  pub list-told : Told kind s (judgeList begun earlier n s)
+  list-told : Told kind s (judgeList begun earlier n s)
   unfolding judgeList
   list-told =
       rw (information-read s judgedAs)

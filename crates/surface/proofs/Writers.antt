@@ -87,7 +87,7 @@ module _ {tests : List Test} {bytes : ℕ} {fields : List (Name × ℕ)} {skippe
         (λ n. refusing 0x16 (e ∙ rw n) (p ∙ rw n) (q ∙ rw n))
 
     -- what a writer states, where its tests are these three
-    pub flat : {fine : Bool} (a b c : Bool) → both fine (writable counter r) ≡ both a (both b c)
+    flat : {fine : Bool} (a b c : Bool) → both fine (writable counter r) ≡ both a (both b c)
         → firstOf {A = ℕ} tests ≡ firstOf (tested a b c (fits (length before)))
         → (a ≡ true → b ≡ true → c ≡ true → Packs bytes fields skipped (packedOf counter r))
         → Frames fine counter r before number after → Writes tests bytes fields skipped before number after

@@ -14,7 +14,8 @@ use Rattle.promises.specs.Standing.{Called}
 use Rattle.promises.specs.Table.{conditions, answerBy, bufferBy}
 use Rattle.surface.specs.Entry.{entryOf}
 
--- a fresh desk: the record afterwards, whatever stood in it. The values of the first counter and of the default budget are promises' `Defaults`.
+-- a fresh desk: the record afterwards, whatever stood in it. The values of the first counter and of the default budget are said in promises
+-- (`Defaults`).
 pub record Opens (after : Desk) : Type 0 where
   pub empty : after ≡ deskStand .fresh first
   pub good : Good after
