@@ -59,13 +59,13 @@ abortedWith code index sub = record { number = 0x22; sub = sub; index = index; c
 
 -- segments: 7 bytes of which 2 are unused; 6 bytes with an unused count that plays no part; the same as the last
 abbrev pub five : List ℕ
-five = hex 19 0x0a000000001300300400000001020304050607
+five = hex 16 0x0a000000001300300401020304050607
 
 abbrev pub six : List ℕ
-six = hex 18 0x090000000013003016000000111213141516
+six = hex 15 0x090000000013003016111213141516
 
 abbrev pub lastSix : List ℕ
-lastSix = hex 18 0x090000000013003017000000111213141516
+lastSix = hex 15 0x090000000013003017111213141516
 
 -- of a list: the first reply, incomplete; a later one, complete; and one of operation 7
 abbrev pub firstFragment : List ℕ
@@ -84,12 +84,24 @@ abbrev pub examples : List Example
 examples =
     -- "0a000000001300304318100178563412": the order program's example
     (upload 4 (hex 16 0x0a000000001300304318100178563412), (doneWith 4, hex 4 0x78563412))
-    -- (P) "Reply of 11 bytes: 20; of 12 bytes with type 6: 20."
+    -- (P) "Reply of 11 bytes: 20; of 12 bytes with type 6: 20.": of an upload, a download and a list
     ∷ (upload 4 (hex 11 0x0a00000000130030431810), (plainOf 0x20, blank 4))
     ∷ (upload 4 (hex 12 0x0a0000000016003043181001), (plainOf 0x20, blank 4))
     ∷ (download 4 (hex 11 0x0a00000000130030601810), (plainOf 0x20, blank 4))
-    ∷ (segments 4 [] (hex 11 0x0300000000130030010000), (plainOf 0x20, blank 4))
     ∷ (fragments 4 [] (hex 11 0x0800000000130080020000), (plainOf 0x20, blank 4))
+    -- document 02, [1]: "20 now starts below 9 bytes there". 8 bytes are 20; 9 with length 3 an empty chunk; of 11 two are used, and P = 2
+    ∷ (segments 4 [] (hex 8 0x0300000000130030), (plainOf 0x20, blank 4))
+    ∷ (segments 4 [] (hex 9 0x030000000013003001), (doneWith 0, blank 4))
+    ∷ (segments 4 [] (hex 11 0x0a000000001300300b6162), (doneWith 2, hex 4 0x6162eeee))
+    -- all rules for a segment of 9 to 11 bytes: type 6, service 9, specifier 5; service 1, specifier 4; type 4; a byte that is not there
+    ∷ (segments 4 [] (hex 9 0x030000000016003001), (plainOf 0x20, blank 4))
+    ∷ (segments 4 [] (hex 9 0x030000000013009001), (plainOf 0x20, blank 4))
+    ∷ (segments 4 [] (hex 9 0x0300000000130030a1), (plainOf 0x20, blank 4))
+    ∷ (segments 4 [] (hex 9 0x030000000013001001), (plainOf 0x20, blank 4))
+    ∷ (segments 4 [] (hex 9 0x030000000013003081), (plainOf 0x20, blank 4))
+    ∷ (segments 4 [] (hex 9 0x030000000014003001), (plainOf 0x23, blank 4))
+    ∷ (segments 4 [] (hex 9 0x020000000013003001), (plainOf 0x26, blank 4))
+    ∷ (segments 4 [] (hex 10 0x0a000000001300300b61), (plainOf 0x25, blank 4))
     -- unlisted: service 0, service 9, specifier 5
     ∷ (upload 4 (hex 16 0x0a000000001300004318100178563412), (plainOf 0x20, blank 4))
     ∷ (upload 4 (hex 16 0x0a000000001300904318100178563412), (plainOf 0x20, blank 4))
@@ -110,31 +122,33 @@ examples =
     ∷ (upload 2 (hex 16 0x0a000000001300304318100178563412), (doneWith 4, hex 2 0x7856))
     ∷ (upload 4 (hex 15 0x0a0000000013003043181001785634), (plainOf 0x25, blank 4))
     -- (P) "Segment length 10, unused 7: chunk 0. Length 11, unused 7: chunk 8. Length 2: 26."
-    ∷ (segments 8 [] (hex 12 0x0a000000001300300f000000), (doneWith 0, blank 8))
-    ∷ (segments 8 [] (hex 20 0x0b000000001300300f0000000102030405060708), (doneWith 8, hex 8 0x0102030405060708))
-    ∷ (segments 8 [] (hex 20 0x02000000001300300f0000000102030405060708), (plainOf 0x26, blank 8))
+    ∷ (segments 8 [] (hex 9 0x0a000000001300300f), (doneWith 0, blank 8))
+    ∷ (segments 8 [] (hex 17 0x0b000000001300300f0102030405060708), (doneWith 8, hex 8 0x0102030405060708))
+    ∷ (segments 8 [] (hex 17 0x02000000001300300f0102030405060708), (plainOf 0x26, blank 8))
     -- only a chunk of exactly 7 loses the unused count: 5 bytes of 7, then 6 of 6; then the last, and the sum
     ∷ (segments 18 [] five, (plainOf 0x01, hex 18 0x0102030405eeeeeeeeeeeeeeeeeeeeeeeeee))
     ∷ (segments 18 (five ∷ []) six, (plainOf 0x01, hex 18 0x0102030405111213141516eeeeeeeeeeeeee))
     ∷ (segments 18 (five ∷ six ∷ []) lastSix, (doneWith 17, hex 18 0x0102030405111213141516111213141516ee))
     -- a segment's bytes that are not there, and that do not fit behind the earlier ones
-    ∷ (segments 18 [] (hex 17 0x0900000000130030160000001112131415), (plainOf 0x25, blank 18))
+    ∷ (segments 18 [] (hex 14 0x0900000000130030161112131415), (plainOf 0x25, blank 18))
     ∷ (segments 16 (five ∷ six ∷ []) lastSix, (plainOf 0x25, hex 16 0x0102030405111213141516eeeeeeeeee))
     -- service 1: code at 12-13, register at 14, before type and abort; 19 bytes are 20
     ∷ (upload 4 (hex 20 0x0a00000000140010801810013412560000000000), (emergencyWith 0x1234 0x56, blank 4))
     ∷ (upload 4 (hex 19 0x0a000000001300104018100134125600000000), (plainOf 0x20, blank 4))
     ∷ (segments 4 [] (hex 20 0x0a00000000130010001810013412560000000000), (emergencyWith 0x1234 0x56, blank 4))
+    ∷ (segments 4 [] (hex 19 0x0a000000001300100018100134125600000000), (plainOf 0x20, blank 4))
     -- specifier 4: code at 12-15, the reply's own index and sub-index, before the type; 15 bytes are 20
     ∷ (upload 4 (hex 16 0x0a000000001400308000200300000206), (abortedWith 0x06020000 0x2000 3, blank 4))
     ∷ (download 4 (hex 16 0x0a000000001300308000200300000206), (abortedWith 0x06020000 0x2000 3, blank 4))
     ∷ (segments 4 [] (hex 16 0x0a000000001300308018100100000305), (abortedWith 0x05030000 0x1018 1, blank 4))
+    ∷ (segments 4 [] (hex 15 0x0a0000000013003080181001000003), (plainOf 0x20, blank 4))
     ∷ (upload 4 (hex 15 0x0a0000000013003080002003000002), (plainOf 0x20, blank 4))
     -- wrong type, index, sub-index
     ∷ (upload 4 (hex 16 0x0a000000001400304318100178563412), (plainOf 0x23, blank 4))
     ∷ (upload 4 (hex 16 0x0a000000001300304319100178563412), (plainOf 0x23, blank 4))
     ∷ (upload 4 (hex 16 0x0a000000001300304318100278563412), (plainOf 0x23, blank 4))
     -- of a segment the type alone
-    ∷ (segments 18 [] (hex 19 0x0a000000001400300400000001020304050607), (plainOf 0x23, blank 18))
+    ∷ (segments 18 [] (hex 16 0x0a000000001400300401020304050607), (plainOf 0x23, blank 18))
     -- a download of 16 bytes is done, of 15 it is 20; wrong index: 23
     ∷ (download 4 (hex 16 0x0a000000001300306018100100000000), (doneWith 0, blank 4))
     ∷ (download 4 (hex 15 0x0a0000000013003060181001000000), (plainOf 0x20, blank 4))

@@ -60,7 +60,7 @@ readHeaders s =
     onSdo (readSdoHeader s) HeadersRead.Undecodable λ d.
     HeadersRead.Headers (record { mailbox = m; service = c .service; sdo = d })
 
--- the same of a segment, whose byte 8 has its own layout
+-- the same of a segment, whose byte 8 is its whole header; document 02, [1]: "20 now starts below 9 bytes there"
 unfoldable pub readSegmentHeaders : List ℕ → SegmentHeadersRead
 readSegmentHeaders s =
     pick (ltb (length s) segmentLeast) SegmentHeadersRead.Undecodable

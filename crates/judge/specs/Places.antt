@@ -34,12 +34,13 @@ normalLeast = behind completeSize
 abbrev pub normalAt : ℕ
 normalAt = behind completeSize
 
--- of a segment too "Under 12 bytes .. 20"; "The chunk starts at byte 12, where the source takes it."
+-- document 02, [1]: "let a segment reply of 9 to 11 bytes be judged too: 20 now starts below 9 bytes there"
 abbrev pub segmentLeast : ℕ
-segmentLeast = 12
+segmentLeast = 9
 
+-- document 02, [1]: "By ETG.1000.6 a segment reply's data begin at byte 9. Take the chunk there"
 abbrev pub segmentAt : ℕ
-segmentAt = 12
+segmentAt = 9
 
 -- "from byte 14 in the first operation 2 reply, from 12 in later ones"
 abbrev pub firstFragmentAt : ℕ

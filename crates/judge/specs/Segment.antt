@@ -19,8 +19,8 @@ use Rattle.judge.specs.declared.headers.SegmentHeadersRead.the-variants 
 unfoldable pub chunkLength : ℕ → ℕ → ℕ
 chunkLength lengthField unused = pick (eqb (lengthField - 3) 7) (7 - unused) (lengthField - 3)
 
--- "Segment: length below 3 is 26. .. The chunk starts at byte 12, where the source takes it. It must be there, and the earlier
--- chunks plus it be at most this call's N, else 25."
+-- "Segment: length below 3 is 26. .. It must be there, and the earlier chunks plus it be at most this call's N, else 25." Of the
+-- chunk that is said: bytes that the unused count takes off need not be there.
 unfoldable pub segmentOf : ℕ → SegmentHeaders → ℕ → ℕ → Verdict
 segmentOf size h earlier n =
     pick (ltb (h .mailbox .length) 3) (Refused 0x26)

@@ -1,5 +1,6 @@
 // Rule 1: the headers of a reply, each kind's together; and rule 4, whether they are those of the transfer that was asked.
 use crate::places::SDO_LEAST;
+use crate::places::SEGMENT_LEAST;
 use mailbox::MailboxHeader;
 use mailbox::coe::CoeHeader;
 use mailbox::information::SdoInfoHeader;
@@ -60,11 +61,11 @@ pub enum SegmentHeadersRead {
     Undecodable,
 }
 
-// Of a segment, which is to be as long as other SDO replies though its own header is one byte.
+// Of a segment, whose own header is one byte.
 pub(crate) fn read_segment_headers(s: &[u8]) -> SegmentHeadersRead
     ensures { λ r. ⌜ r ≡ readSegmentHeaders (now (s .entry)) ⌝ }
 {
-    if s.len() < SDO_LEAST {
+    if s.len() < SEGMENT_LEAST {
         return SegmentHeadersRead::Undecodable;
     }
     let MailboxHeaderRead::Header(mailbox) = MailboxHeader::unpack(s) else {

@@ -26,7 +26,9 @@ pub(crate) const COMPLETE_SIZE: usize = 12;
 
 pub(crate) const NORMAL_AT: u8 = 16;
 
-pub(crate) const SEGMENT_AT: u8 = 12;
+pub(crate) const SEGMENT_LEAST: usize = 9;
+
+pub(crate) const SEGMENT_AT: u8 = 9;
 
 pub(crate) const FIRST_FRAGMENT_AT: u8 = 14;
 

@@ -31,8 +31,8 @@ examples =
     ∷ (answered 1 0 (hex 16 0x0a000000001300304018100106000000), (wentOn 0x01 0 0, blank 6))
     ∷ (answered 3 0 (hex 16 0x0a000000001300306018100100000000), (doneWith 0, blank 6))
     -- a segment's chunk lies behind the earlier ones; 01 names the chunk, and 00 the sum
-    ∷ (answered 7 3 (hex 14 0x050000000013003000000000aabb), (wentOn 0x01 0 2, hex 6 0xeeeeeeaabbee))
-    ∷ (answered 7 3 (hex 14 0x050000000013003001000000aabb), (doneWith 5, hex 6 0xeeeeeeaabbee))
+    ∷ (answered 7 3 (hex 11 0x050000000013003000aabb), (wentOn 0x01 0 2, hex 6 0xeeeeeeaabbee))
+    ∷ (answered 7 3 (hex 11 0x050000000013003001aabb), (doneWith 5, hex 6 0xeeeeeeaabbee))
     -- a list's first fragment begins at byte 14 and the later ones at 12; 02 names the chunk, and that the list has begun
     ∷ (answered 4 0 (hex 16 0x0a0000000013008082000100aabbccdd), (wentOn 0x02 1 2, hex 6 0xccddeeeeeeee))
     ∷ (answered 8 2 (hex 16 0x0a0000000013008082000100aabbccdd), (wentOn 0x02 1 2, hex 6 0xeeeeaabbeeee))
@@ -42,7 +42,7 @@ examples =
     ∷ (answered 8 2 (hex 12 0x0a0000000013008003000000), (wentOn 0x02 1 0, blank 6))
     -- refusals
     ∷ (answered 2 0 (hex 14 0x0a000000001300304b181001aabb), (plainOf 0x15, blank 6))
-    ∷ (answered 7 5 (hex 14 0x050000000013003000000000aabb), (plainOf 0x25, blank 6))
+    ∷ (answered 7 5 (hex 11 0x050000000013003000aabb), (plainOf 0x25, blank 6))
     ∷ []
 
 pub examples-hold : map (λ (e : Shown × Shown). e .0) examples ≡ map (λ (e : Shown × Shown). e .1) examples

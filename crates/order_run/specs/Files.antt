@@ -46,10 +46,6 @@ uploadRequest = hex 16 0x0a000000001300204018100100000000
 abbrev firstSegmentRequest : List ℕ
 firstSegmentRequest = hex 16 0x0a000000002300206000000000000000
 
--- a complete size of 8, and no data
-abbrev segmentsFollow : List ℕ
-segmentsFollow = hex 16 0x0a000000001300304118100108000000
-
 unfoldable pub files : List (List ℕ × List ℕ)
 files =
     -- the document's example
@@ -67,11 +63,24 @@ files =
     ∷ (printed (hex 13 0x30313138313030310a3061300a), hex 36 0x30613030303030303030313330303230343031383130303130303030303030300a66660a)
     -- a refused reply: its number, and no payload
     ∷ (printed (hex 14 0x30313138313030310a306130300a), hex 36 0x30613030303030303030313330303230343031383130303130303030303030300a32300a)
-    -- an upload of two segments: "It prints each request", with toggle 0 and then 1, and the joined payload
+    -- a drive's name, "AX5112 servo drive", in segments of 7 bytes, of the last 3 unused: "It prints each request", with toggle 0, 1 and 0,
+    -- and the joined payload
     ∷ (
-      printed (textOf (upload ∷ segmentsFollow ∷ hex 15 0x060000000013003000000000a1a2a3 ∷ hex 16 0x070000000013003011000000b1b2b3b4 ∷ [])),
+      printed
+          (textOf
+          (hex 4 0x01081000
+          ∷ hex 16 0x0a000000001300304108100012000000
+          ∷ hex 16 0x0a000000001300300041583531313220
+          ∷ hex 16 0x0a0000000013003010736572766f2064
+          ∷ hex 16 0x0a000000001300300772697665000000
+          ∷ [])),
       textOf
-          (uploadRequest ∷ firstSegmentRequest ∷ hex 16 0x0a000000003300207000000000000000 ∷ hex 8 0x00a1a2a3b1b2b3b4 ∷ []),
+          (hex 16 0x0a000000001300204008100000000000
+          ∷ firstSegmentRequest
+          ∷ hex 16 0x0a000000003300207000000000000000
+          ∷ hex 16 0x0a000000004300206000000000000000
+          ∷ hex 19 0x0041583531313220736572766f206472697665
+          ∷ []),
     )
     -- a list: of an operation other than 2, nothing; then two fragments, the first answered 02
     ∷ (

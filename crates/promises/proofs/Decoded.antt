@@ -67,8 +67,9 @@ unfolding names.operationOf
 operation-look n = look names.operationNumber ListedOpCode.Listed ListedOpCode.Unlisted n names.operations
 
 module _ (s : List ℕ) where
-  -- "Under 12 bytes, or an unlisted type, service or ..": of any third header, q, that is looked up in a list of its own
-  module _ {A R : Type 0} {number : A → ℕ} {found : A → R} {none q : R} {n : ℕ} {among : Bool}
+  -- "Under 12 bytes, or an unlisted type, service or ..": of any least length, and any third header, q, that is looked up in a list of
+  -- its own
+  module _ (least : ℕ) {A R : Type 0} {number : A → ℕ} {found : A → R} {none q : R} {n : ℕ} {among : Bool}
       (third : Look number found none n q among)
       (judged : ListedType → ListedService → R → Verdict)
       (no-type : (b : ListedService) (c : R) → judged ListedType.Unlisted b c ≡ Refused 0x20)
@@ -80,14 +81,14 @@ module _ (s : List ℕ) where
           → names.typeNumber t ≡ the mailboxType s → names.serviceNumber v ≡ the service s → number a ≡ n
           → Tells s (judged (ListedType.Listed t) (ListedService.Listed v) (found a)) x)
           → Tells s
-          (pick (under 12 s) (Refused 0x20) (judged (names.typeOf (the mailboxType s)) (names.serviceOf (the service s)) q))
-          (pick (under 12 s) (some (refuse 0x20))
+          (pick (under least s) (Refused 0x20) (judged (names.typeOf (the mailboxType s)) (names.serviceOf (the service s)) q))
+          (pick (under least s) (some (refuse 0x20))
           (pick (unlisted types (the mailboxType s)) (some (refuse 0x20))
           (pick (unlisted services (the service s)) (some (refuse 0x20))
           (pick (not among) (some (refuse 0x20)) x))))
       unfolding answerOf
       decoded p =
-          line s (under 12 s) (Refused 0x20) _
+          line s (under least s) (Refused 0x20) _
           (listed s (type-look (the mailboxType s)) (λ a. judged a (names.serviceOf (the service s)) q) (no-type _ _) λ t et.
           listed s (service-look (the service s)) (λ b. judged (ListedType.Listed t) b q) (no-service t q) λ v ev.
           listed s third (λ c. judged (ListedType.Listed t) (ListedService.Listed v) c) (no-third t v) λ a ea.
@@ -101,8 +102,8 @@ module _ (s : List ℕ) where
   nothing-read x (MailboxHeaderRead.Header m) (CoeHeaderRead.Header c) = refl
 
   -- what is long enough for a rule is long enough for its headers
-  longer : (k : ℕ) → k ≤ 12 → under 12 s ≡ false → ltb (length s) k ≡ false
-  longer k h e = le-ltb (length s) k (omega (arith, ltb-false (length s) 12 e))
+  longer : (least k : ℕ) → k ≤ least → under least s ≡ false → ltb (length s) k ≡ false
+  longer least k h e = le-ltb (length s) k (omega (arith, ltb-false (length s) least e))
 
   abbrev pub sdoBy : (Headers → Verdict) → ListedType → ListedService → ListedCommand → Verdict
   sdoBy f a b k =
@@ -120,7 +121,7 @@ module _ (s : List ℕ) where
   sdo-read f =
       by (under 12 s)
       (λ y. rw y (ap (λ q. onHeaders q f) (nothing-read HeadersRead.Undecodable (readMailboxHeader s) (readCoeHeader s))))
-      (λ n. rw (n, longer 6 (omega arith) n, longer 8 (omega arith) n))
+      (λ n. rw (n, longer 12 6 (omega arith) n, longer 12 8 (omega arith) n))
 
   abbrev pub segmentBy : (SegmentHeaders → Verdict) → ListedType → ListedService → ListedCommand → Verdict
   segmentBy f a b k =
@@ -132,13 +133,13 @@ module _ (s : List ℕ) where
       f
 
   pub segment-read : (f : SegmentHeaders → Verdict) → onSegmentHeaders (readSegmentHeaders s) f
-      ≡ pick (under 12 s) (Refused 0x20)
+      ≡ pick (under 9 s) (Refused 0x20)
       (segmentBy f (names.typeOf (the mailboxType s)) (names.serviceOf (the service s)) (names.commandOf (the specifier s)))
   unfolding readSegmentHeaders readSegmented readMailboxHeader readCoeHeader
   segment-read f =
-      by (under 12 s)
+      by (under 9 s)
       (λ y. rw y)
-      (λ n. rw (n, longer 6 (omega arith) n, longer 8 (omega arith) n, longer 9 (omega arith) n))
+      (λ n. rw (n, longer 9 6 (omega arith) n, longer 9 8 (omega arith) n))
 
   abbrev pub informationBy : (InformationHeaders → Verdict) → ListedType → ListedService → ListedOpCode → Verdict
   informationBy f a b k =
@@ -157,4 +158,4 @@ module _ (s : List ℕ) where
       by (under 12 s)
       (λ y. rw y
       (ap (λ q. onInformationHeaders q f) (nothing-read InformationHeadersRead.Undecodable (readMailboxHeader s) (readCoeHeader s))))
-      (λ n. rw (n, longer 6 (omega arith) n, longer 8 (omega arith) n))
+      (λ n. rw (n, longer 12 6 (omega arith) n, longer 12 8 (omega arith) n))

@@ -35,7 +35,7 @@ use Rattle.judge.specs.declared.headers.Headers.{Headers}
 use Rattle.transfer.specs.Judgement.{judgeReply}
 use Rattle.transfer.specs.declared.due.Reply.the-variants as reply
 use Rattle.promises.specs.Finding.{Finding, refuse, emergency, aborted, done, thenRequest, thenReply}
-use Rattle.promises.specs.Rules.{Rule, under, from, fewerFrom, at, isSet, sdo, addressed, download, expeditedUpload, otherUpload, segmentChunk, segment, chunkPlace, information, rules, JudgedByRules}
+use Rattle.promises.specs.Rules.{Rule, under, from, fewerFrom, at, isSet, sdo, addressed, download, expeditedUpload, otherUpload, segmentChunk, segmentPlace, segment, chunkPlace, information, rules, JudgedByRules}
 use Rattle.promises.proofs.Lines.{Tells, line, guarded, any-of}
 use Rattle.promises.proofs.Decoded.{specifier-look, operation-look, decoded, sdoBy, sdo-read, segmentBy, segment-read, informationBy, information-read}
 
@@ -98,21 +98,21 @@ module _ (s : List ℕ) where
   module _ (i b : ℕ) (f : Headers → Verdict) (kind : List Rule) where
     reply-told : ((t : MailboxType) (v : CoeService) (k : CoeCommand)
         → Tells s (sdoBy s f (ListedType.Listed t) (ListedService.Listed v) (ListedCommand.Listed k)) (firstOf kind))
-        → Tells s (replyTo i b s f) (firstOf (sdo s ++ addressed i b s ++ kind))
+        → Tells s (replyTo i b s f) (firstOf (sdo 12 s ++ addressed i b s ++ kind))
     unfolding firstOf inOrder replyTo wrongAddress wrongType answerOf
     reply-told p =
         rw (sdo-read s _)
-        (decoded s (specifier-look (the specifier s)) (sdoBy s _) (λ b c. refl) (λ t c. refl) (λ t v. refl) λ t v k et ev ek.
+        (decoded s 12 (specifier-look (the specifier s)) (sdoBy s _) (λ b c. refl) (λ t c. refl) (λ t v. refl) λ t v k et ev ek.
         alarm-lines v k ev ek _
         (rw et
         (any-of s (not (eqb (the mailboxType s) 3)) (not (eqb (the index s) i)) (not (eqb (the subIndex s) b)) _ _ (p t v k))))
 
-  download-told : (i b : ℕ) → Tells s (judgeDownload i b s) (firstOf (sdo s ++ addressed i b s ++ download s))
+  download-told : (i b : ℕ) → Tells s (judgeDownload i b s) (firstOf (sdo 12 s ++ addressed i b s ++ download s))
   unfolding firstOf judgeDownload downloadOf answerOf
   download-told i b = reply-told i b _ (download s) λ t v k. line s (under 16 s) _ _ refl
 
   upload-told : (i b n : ℕ)
-      → Tells s (judgeUpload i b n s) (firstOf (sdo s ++ addressed i b s ++ (expeditedUpload s ++ otherUpload n s)))
+      → Tells s (judgeUpload i b n s) (firstOf (sdo 12 s ++ addressed i b s ++ (expeditedUpload s ++ otherUpload n s)))
   unfolding firstOf judgeUpload uploadOf expeditedOf normalOf wholeOf answerOf
   upload-told i b n =
       let p = 4 - the size s in
@@ -142,17 +142,17 @@ module _ (s : List ℕ) where
   last-line place len sum true = refl
   last-line place len sum false = refl
 
-  segment-told : (earlier n : ℕ) → Tells s (judgeSegment earlier n s) (firstOf (sdo s ++ segment earlier n s))
+  segment-told : (earlier n : ℕ) → Tells s (judgeSegment earlier n s) (firstOf (sdo 9 s ++ segment earlier n s))
   unfolding firstOf inOrder judgeSegment wrongType segmentOf answerOf
   segment-told earlier n =
       rw (segment-read s _)
-      (decoded s (specifier-look (the specifier s)) (segmentBy s _) (λ b c. refl) (λ t c. refl) (λ t v. refl) λ t v k et ev ek.
+      (decoded s 9 (specifier-look (the specifier s)) (segmentBy s _) (λ b c. refl) (λ t c. refl) (λ t v. refl) λ t v k et ev ek.
       alarm-lines v k ev ek _
       (rw (et, chunk-length (the lengthField s) (the unusedCount s))
       (line s (not (eqb (the mailboxType s) 3)) _ _
       (line s (ltb (the lengthField s) 3) _ _
-      (chunk-lines 12 (segmentChunk s) earlier n _
-      (last-line 12 (segmentChunk s) (earlier + segmentChunk s) (isSet lastSegment s)))))))
+      (chunk-lines segmentPlace (segmentChunk s) earlier n _
+      (last-line segmentPlace (segmentChunk s) (earlier + segmentChunk s) (isSet lastSegment s)))))))
 
   -- ---- lists
 
@@ -169,7 +169,7 @@ module _ (s : List ℕ) where
   information-told begun earlier n =
       let k = the lengthField s - 8 in
       rw (information-read s _)
-      (decoded s (operation-look (the operation s)) (informationBy s _) (λ b c. refl) (λ t c. refl) (λ t v. refl)
+      (decoded s 12 (operation-look (the operation s)) (informationBy s _) (λ b c. refl) (λ t c. refl) (λ t v. refl)
       λ t v o et ev eo.
       rw (eo, other-way (eqb (the operation s) 2), fragment-place begun)
       (line s (not (eqb (the operation s) 2)) _ _

@@ -57,10 +57,11 @@ unlisted table x = not (oneOf (numbers table) x)
 
 -- ---- "SDO replies, in this order:"
 
-abbrev pub sdo : List ℕ → List Rule
-sdo s =
+-- least is how long the reply must at least be, by what it answers
+abbrev pub sdo : ℕ → List ℕ → List Rule
+sdo least s =
     -- "1. Under 12 bytes, or an unlisted type, service or specifier: 20."
-    (under 12 s, refuse 0x20)
+    (under least s, refuse 0x20)
     ∷ (unlisted types (the mailboxType s), refuse 0x20)
     ∷ (unlisted services (the service s), refuse 0x20)
     ∷ (unlisted specifiers (the specifier s), refuse 0x20)
@@ -115,16 +116,20 @@ segmentChunk s =
     let k = the lengthField s - 3 in
     pick (eqb k 7) (k - the unusedCount s) k
 
--- "Segment: length below 3 is 26. .. The chunk starts at byte 12, where the source takes it. It must be there, and the earlier
--- chunks plus it be at most this call's N, else 25. After the last, P is the sum of chunks."
+-- document 02, [1]: "By ETG.1000.6 a segment reply's data begin at byte 9. Take the chunk there"
+abbrev pub segmentPlace : ℕ
+segmentPlace = 9
+
+-- "Segment: length below 3 is 26. .. It must be there, and the earlier chunks plus it be at most this call's N, else 25. After the
+-- last, P is the sum of chunks."
 abbrev pub segment : ℕ → ℕ → List ℕ → List Rule
 segment earlier n s =
     let k = segmentChunk s in
     (ltb (the lengthField s) 3, refuse 0x26)
-    ∷ (fewerFrom 12 k s, refuse 0x25)
+    ∷ (fewerFrom segmentPlace k s, refuse 0x25)
     ∷ (ltb n (earlier + k), refuse 0x25)
-    ∷ (isSet lastSegment s, done (earlier + k) (from 12 k s))
-    ∷ (otherwise, thenRequest (from 12 k s))
+    ∷ (isSet lastSegment s, done (earlier + k) (from segmentPlace k s))
+    ∷ (otherwise, thenRequest (from segmentPlace k s))
     ∷ []
 
 -- ---- "Information replies: one request, many replies."
@@ -156,11 +161,12 @@ information begun earlier n s =
 
 -- ---- the statements
 
--- the rules for a reply, by what it answers
+-- the rules for a reply, by what it answers; of a segment, document 02, [1]: "20 now starts below 9 bytes there, and a segment abort
+-- still needs 16. 01's 11-byte case now speaks of other kinds."
 unfoldable pub rules : Reply → ℕ → ℕ → List ℕ → List Rule
-rules (reply.Download i b) earlier n s = sdo s ++ addressed i b s ++ download s
-rules (reply.Upload i b) earlier n s = sdo s ++ addressed i b s ++ expeditedUpload s ++ otherUpload n s
-rules reply.Segment earlier n s = sdo s ++ segment earlier n s
+rules (reply.Download i b) earlier n s = sdo 12 s ++ addressed i b s ++ download s
+rules (reply.Upload i b) earlier n s = sdo 12 s ++ addressed i b s ++ expeditedUpload s ++ otherUpload n s
+rules reply.Segment earlier n s = sdo 9 s ++ segment earlier n s
 rules (reply.Fragment begun) earlier n s = information begun earlier n s
 
 -- "Each number is given exactly under its condition", with its values and its chunk.

@@ -55,10 +55,10 @@ segmentsFollow = hex 16 0x0a000000001300304118100108000000
 
 -- segments of 3 bytes, more to come; and of 4 bytes, the last
 abbrev pub three : List ℕ
-three = hex 15 0x060000000013003000000000a1a2a3
+three = hex 12 0x060000000013003000a1a2a3
 
 abbrev pub lastFour : List ℕ
-lastFour = hex 16 0x070000000013003011000000b1b2b3b4
+lastFour = hex 13 0x070000000013003011b1b2b3b4
 
 -- fragments of a list: the first, of 4 bytes behind the list kind; the last, of 2
 abbrev pub firstFragment : List ℕ
