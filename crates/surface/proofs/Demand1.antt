@@ -93,17 +93,17 @@ each-sound over = tt
 each-sound (stops h E) = ((h, λ _. refl), each-sound E)
 each-sound (goes h r E) = ((h, λ e. absurd (false≢true (sym r ∙ e))), each-sound E)
 
-sdo-sound : (s : List ℕ) (l : List Rule) → SoundLines l → SoundLines (sdo s ++ l)
-sdo-sound s l E = stops refl (stops refl (stops refl (stops refl (stops refl (stops refl (stops refl (stops refl (stops refl E))))))))
+sdo-sound : (least : ℕ) (s : List ℕ) (l : List Rule) → SoundLines l → SoundLines (sdo least s ++ l)
+sdo-sound least s l E = stops refl (stops refl (stops refl (stops refl (stops refl (stops refl (stops refl (stops refl (stops refl E))))))))
 
 rules-sound : (due : Reply) (earlier n : ℕ) (s : List ℕ) → SoundLines (rules due earlier n s)
 unfolding rules
-rules-sound (reply.Download i b) earlier n s = sdo-sound s _ (stops refl (stops refl (stops refl (goes refl refl over))))
+rules-sound (reply.Download i b) earlier n s = sdo-sound _ s _ (stops refl (stops refl (stops refl (goes refl refl over))))
 rules-sound (reply.Upload i b) earlier n s =
-    sdo-sound s _
+    sdo-sound _ s _
     (stops refl (stops refl (stops refl (goes refl refl
     (stops refl (stops refl (stops refl (goes refl refl (goes refl refl over)))))))))
-rules-sound reply.Segment earlier n s = sdo-sound s _ (stops refl (stops refl (stops refl (goes refl refl (goes refl refl over)))))
+rules-sound reply.Segment earlier n s = sdo-sound _ s _ (stops refl (stops refl (stops refl (goes refl refl (goes refl refl over)))))
 rules-sound (reply.Fragment begun) earlier n s =
     stops refl (stops refl (stops refl (stops refl (goes refl refl
     (stops refl (stops refl (stops refl (goes refl refl (goes refl refl over)))))))))
