@@ -1,12 +1,18 @@
-"""Document 01's rules in Python: request frames, the judgement of one reply, reads, the order program.
+"""Document 01's rules in Python, with request [1] of document 02: request frames, the judgement of one reply, reads, the order
+program.
 
 What the project's cases expect is computed here. The judgement is that of the model with which vectors.tsv was made, so
-that its agreement with that table is no second opinion; the second opinion is the Rust's, in the rows tagged R."""
+that its agreement with that table is no second opinion; the second opinion is the Rust's, in the rows tagged R. The Rust takes a
+segment's data from byte 12, and was given them there: tools/cases/make says how."""
 
 TYPES = {0, 1, 2, 3, 4, 5, 15}
 SERVICES = set(range(1, 9))
 SPECIFIERS = {0, 1, 2, 3, 4}
 OPERATIONS = set(range(1, 8))
+# "Under 12 bytes"; of a segment reply "20 now starts below 9 bytes there"
+LEAST, SEGMENT_LEAST = 12, 9
+# "By ETG.1000.6 a segment reply's data begin at byte 9."
+SEGMENT_DATA = 9
 
 
 def word(b, at):
@@ -64,12 +70,12 @@ def alarm(r):
     return None
 
 
-def decodable(r):
-    return len(r) >= 12 and r[5] & 15 in TYPES and r[7] >> 4 in SERVICES
+def decodable(r, least):
+    return len(r) >= least and r[5] & 15 in TYPES and r[7] >> 4 in SERVICES
 
 
-def sdo_reply(r, index, sub, rest):
-    if not (decodable(r) and r[8] >> 5 in SPECIFIERS):
+def sdo_reply(r, least, index, sub, rest):
+    if not (decodable(r, least) and r[8] >> 5 in SPECIFIERS):
         return 0x20, NONE, None
     raised = alarm(r)
     if raised:
@@ -80,7 +86,7 @@ def sdo_reply(r, index, sub, rest):
 
 
 def download_reply(r, index, sub):
-    return sdo_reply(r, index, sub, lambda r: (0x20, NONE, None) if len(r) < 16 else (0x00, NONE, b""))
+    return sdo_reply(r, LEAST, index, sub, lambda r: (0x20, NONE, None) if len(r) < 16 else (0x00, NONE, b""))
 
 
 def upload_reply(r, index, sub, n):
@@ -96,7 +102,7 @@ def upload_reply(r, index, sub, n):
         if long(r, 12) <= d:
             return (0x25, NONE, None) if 16 + d > len(r) else (0x00, NONE, r[16:16 + d])
         return 0x01, NONE, None
-    return sdo_reply(r, index, sub, rest)
+    return sdo_reply(r, LEAST, index, sub, rest)
 
 
 def segment_reply(r, earlier, n):
@@ -106,14 +112,14 @@ def segment_reply(r, earlier, n):
         c = word(r, 0) - 3
         if c == 7:
             c -= r[8] >> 1 & 7
-        if c > 0 and 12 + c > len(r) or earlier + c > n:
+        if SEGMENT_DATA + c > len(r) or earlier + c > n:
             return 0x25, NONE, None
-        return (0x00 if r[8] & 1 else 0x01), NONE, r[12:12 + c]
-    return sdo_reply(r, None, None, rest)
+        return (0x00 if r[8] & 1 else 0x01), NONE, r[SEGMENT_DATA:SEGMENT_DATA + c]
+    return sdo_reply(r, SEGMENT_LEAST, None, None, rest)
 
 
 def list_reply(r, begun, earlier, n):
-    if not (decodable(r) and r[8] & 127 in OPERATIONS):
+    if not (decodable(r, LEAST) and r[8] & 127 in OPERATIONS):
         return 0x20, NONE, None
     if r[8] & 127 != 2:
         return 0x02, NONE, None
