@@ -1,5 +1,5 @@
-"""Sequences made by hand about lent buffers, replies and budgets: each under the sentence of document 01 that it is about, with
-the number that every call must give."""
+"""Sequences made by hand about lent buffers, replies and budgets: each under the sentence of document 01, or of request [1] of
+document 02, that it is about, with the number that every call must give."""
 import replies as r
 from orders import SERIAL, WRITTEN, down, follow_in_segments, in_segments, listed, sequence, up
 from desk import QUANTITIES, Order
@@ -29,6 +29,10 @@ def reply_lengths(h):
         h.send(0).gives(0x02)
         h.receive(0, bytes(1487)).gives(0x16)
         h.receive(0, SERIAL[:length].ljust(length, b"\x99")).gives(number)
+    for order, reply in ((down(sub=1), r.downloaded(0x6060, 1)), (listed(), r.fragment(b"", False, False, operation=3))):
+        h.enter(0, order).gives(0x01)
+        h.send(0).gives(0x02)
+        h.receive(0, reply[:11]).gives(0x20)
 
 
 @sequence
@@ -86,6 +90,37 @@ def over_within_segments(h):
         h.send(4).gives(0x02)
         h.receive(4, reply, n).gives(number)
         h.send(4).gives(0x12)
+
+
+@sequence
+def short_segments(h):
+    """let a segment reply of 9 to 11 bytes be judged too: 20 now starts below 9 bytes there, and a segment abort still needs 16"""
+    two = r.segment(b"ab", True)
+    abort, emergency = r.aborted(0x1018, 1, 0x06020000), r.emergency(0x8130, 0x11)
+    for number, reply in ((0x20, two[:8]), (0x00, r.segment(b"", True, padded=False)), (0x00, r.segment(b"", True)[:9]),
+                          (0x01, r.segment(b"", False, padded=False)), (0x25, two[:10]), (0x00, two[:11]), (0x00, two),
+                          (0x00, r.segment(b"ab", True, padded=False)), (0x25, r.segment(b"ab", True, padded=False)[:10]),
+                          (0x26, r.header(2, 3) + b"\x01"), (0x23, r.header(3, 3, mailbox_type=4) + b"\x01"),
+                          (0x20, r.header(3, 3, mailbox_type=6) + b"\x01"), (0x20, r.header(3, 9) + b"\x01"),
+                          (0x20, r.header(3, 3) + b"\xa1"),
+                          (0x20, abort[:9]), (0x20, abort[:11]), (0x20, abort[:15]), (0x22, abort), (0x20, emergency[:9]),
+                          (0x20, emergency[:11]), (0x20, emergency[:19]), (0x21, emergency)):
+        h.fresh()
+        in_segments(h, 4)
+        h.send(4).gives(0x02)
+        h.receive(4, reply).gives(number)
+
+
+@sequence
+def drive_name(h):
+    """By ETG.1000.6 a segment reply's data begin at byte 9."""
+    name = b"AX5112 servo drive"
+    h.enter(0, up(0x1008, 0)).gives(0x01)
+    h.send(0).gives(0x02)
+    h.receive(0, r.segments_follow(0x1008, 0, len(name))).gives(0x01)
+    for toggle, at in ((0, 0), (1, 7), (0, 14)):
+        h.send(0).gives(0x02)
+        h.receive(0, r.segment(name[at:at + 7], at == 14, toggle)).gives(0x00 if at == 14 else 0x01)
 
 
 @sequence

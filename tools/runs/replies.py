@@ -1,4 +1,4 @@
-"""Replies as a drive sends them, by document 01's layouts."""
+"""Replies as a drive sends them, by document 01's layouts and, of a segment, by ETG.1000.6: its data begin at byte 9."""
 from stored import le
 
 
@@ -25,7 +25,7 @@ def segments_follow(index, sub, complete):
 def segment(chunk, last, toggle=0, padded=True):
     """A chunk below 7 bytes as seven with an unused count; `padded=False`: by its length alone."""
     unused = 7 - len(chunk) if padded and len(chunk) < 7 else 0
-    return header(len(chunk) + unused + 3, 3) + bytes([toggle << 4 | unused << 1 | last, 0, 0, 0]) + chunk + bytes(unused)
+    return header(len(chunk) + unused + 3, 3) + bytes([toggle << 4 | unused << 1 | last]) + chunk + bytes(unused)
 
 
 def downloaded(index, sub):
