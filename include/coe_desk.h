@@ -46,7 +46,8 @@ uint8_t coe_list_frame(uint8_t counter, uint16_t kind, uint8_t *frame, size_t fr
 /* ---- The reply judge, without desk and budget. It judges one reply to a request for (`index`, `sub`) and stores its chunk in
  * `data`. `kind`: 1 upload, 3 download, 7 segment, 4 list not begun, 8 list begun; 0x15 for another. `earlier`: the sum of the chunks
  * before this one, where it is stored (kinds 1 and 3 have none, and take no notice of it). 0x16: `reply_len` above 1486 or `data_len`
- * above 131070, after 0x15. On 0x01 and 0x02 `length` is this reply's chunk, and `sub` is 1 once a list has begun. */
+ * above 131070, after 0x15. A segment reply's data begin at byte 9. 0x20: undecodable, as below 9 bytes for a segment and below 12 for
+ * the others. On 0x01 and 0x02 `length` is this reply's chunk, and `sub` is 1 once a list has begun. */
 coe_answer coe_judge(uint8_t kind, uint16_t index, uint8_t sub, uint32_t earlier, const uint8_t *reply, size_t reply_len,
                      uint8_t *data, size_t data_len);
 

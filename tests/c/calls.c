@@ -66,6 +66,8 @@ int judging(uint32_t calls) {
             EXPECT("an unknown kind", 0x15, a.number);
         else if (1486 < reply.len || 131070 < data.len)
             EXPECT("a length out of range", 0x16, a.number);
+        else if (reply.len < (kind == 7 ? 9 : 12))
+            EXPECT("too short a reply", 0x20, a.number);
         else
             EXPECT("judged: 00 to 02, or 20 to 26", 1, a.number <= 0x02 || (0x20 <= a.number && a.number <= 0x26));
         chunk_of(kind, earlier, a, &from, &to);

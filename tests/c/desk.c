@@ -44,7 +44,7 @@ static uint8_t refusal(uint8_t seat, int receives) {
 uint8_t *any_reply(lent *l) {
     static const uint8_t commands[8] = {0x43, 0x4f, 0x40, 0x40, 0x60, 0x80, 0x00, 0x01};
     int list = below(3) == 0;
-    uint8_t *r = lend(l, below(60) ? below(8) ? 12 + below(40) : below(20) : 1480 + below(12));
+    uint8_t *r = lend(l, below(60) ? below(8) ? 9 + below(43) : below(20) : 1480 + below(12));
     uint8_t front[16] = {0, 0, 0, 0, 0, 3, 0, 0x30, 0, 0x18, 0x10, 1, 0, 0, 0, 0};
     front[0] = (uint8_t)below(32);
     front[7] = list ? 0x80 : below(20) ? 0x30 : 0x10;

@@ -1,4 +1,4 @@
-/* The specification's examples, through C. */
+/* The specification's examples, through C, and those of its request [1]: a segment reply's data begin at byte 9. */
 #include "test.h"
 
 static uint8_t digit(char c) { return (uint8_t)(c <= '9' ? c - '0' : c - 'a' + 10); }
@@ -40,18 +40,21 @@ static coe_answer judged(uint8_t kind, uint32_t earlier, const char *text, uint8
 
 static int replies(void) {
     uint8_t data[64] = {0};
-    EXPECT("a reply of 11 bytes", 0x20, judged(1, 0, "0a00000000130030431810", data, 64).number);
+    EXPECT("an upload's reply of 11 bytes", 0x20, judged(1, 0, "0a00000000130030431810", data, 64).number);
+    EXPECT("a download's", 0x20, judged(3, 0, "0a00000000130030601810", data, 64).number);
+    EXPECT("a list's", 0x20, judged(4, 0, "0800000000130080020000", data, 64).number);
+    EXPECT("a later one of a list", 0x20, judged(8, 0, "0800000000130080020000", data, 64).number);
     EXPECT("12 bytes with type 6", 0x20, judged(1, 0, "0a0000000016003043181001", data, 64).number);
     EXPECT("complete size N", 0x01, judged(1, 0, "0a000000001300304018100140000000", data, 64).number);
     EXPECT("complete size N + 1", 0x24, judged(1, 0, "0a000000001300304018100141000000", data, 64).number);
     coe_answer a = judged(7, 3, "0a000000001300300e00000000000000", data, 64);
     EXPECT("segment length 10, unused 7", 0x01, a.number);
     EXPECT("its chunk", 0, a.length);
-    a = judged(7, 3, "0b000000001300300e0000000102030405060708", data, 64);
+    a = judged(7, 3, "0b000000001300300e0102030405060708", data, 64);
     EXPECT("segment length 11, unused 7", 0x01, a.number);
     EXPECT("its chunk", 8, a.length);
     EXPECT("where it lies", 0, memcmp(data, "\0\0\0\1\2\3\4\5\6\7\10\0", 12));
-    EXPECT("segment length 2", 0x26, judged(7, 0, "020000000013003000000000", data, 64).number);
+    EXPECT("segment length 2", 0x26, judged(7, 0, "020000000013003000", data, 64).number);
     a = judged(1, 9, "0a000000001300304e181001ff", data, 64);
     EXPECT("expedited, size 3, indicator clear", 0x00, a.number);
     EXPECT("its length", 1, a.length);
@@ -61,6 +64,28 @@ static int replies(void) {
     EXPECT("its code", 0x06020000, a.code);
     EXPECT("its index", 0x1018, a.index);
     EXPECT("its sub-index", 1, a.sub);
+    return 0;
+}
+
+static int short_segments(void) {
+    uint8_t data[64] = {0};
+    EXPECT("a segment reply of 8 bytes", 0x20, judged(7, 0, "0300000000130030", data, 64).number);
+    coe_answer a = judged(7, 3, "030000000013003000", data, 64);
+    EXPECT("9 bytes, length 3", 0x01, a.number);
+    EXPECT("its chunk", 0, a.length);
+    a = judged(7, 0, "0a000000001300300b6162", data, 64);
+    EXPECT("11 bytes of which two are used", 0x00, a.number);
+    EXPECT("its length", 2, a.length);
+    EXPECT("the two, and nothing behind them", 0, memcmp(data, "ab\0", 3));
+    EXPECT("the second is not there", 0x25, judged(7, 0, "0a000000001300300b61", data, 64).number);
+    EXPECT("an abort of 9 bytes", 0x20, judged(7, 0, "0a0000000013002080", data, 64).number);
+    EXPECT("of 15 bytes", 0x20, judged(7, 0, "0a0000000013002080181001000002", data, 64).number);
+    a = judged(7, 0, "0a000000001300208018100100000206", data, 64);
+    EXPECT("of 16 bytes", 0x22, a.number);
+    EXPECT("bytes 9 and 10 are its index", 0x1018, a.index);
+    EXPECT("an emergency of 9 bytes", 0x20, judged(7, 0, "0a0000000013001000", data, 64).number);
+    EXPECT("9 bytes with type 4", 0x23, judged(7, 0, "030000000014003000", data, 64).number);
+    EXPECT("9 bytes with type 6", 0x20, judged(7, 0, "030000000016003000", data, 64).number);
     return 0;
 }
 
@@ -115,11 +140,31 @@ static int turns(void) {
     size = bytes_of("0a000000001300304018100120000000", reply);
     EXPECT("segments follow", 0x01, coe_desk_receive(&desk, 0, reply, size, data, 64).number);
     EXPECT("send", 0x02, coe_desk_send(&desk, 0, frame, 16).number);
-    size = bytes_of("0b00000000130030000000000102030405060708", reply);
+    size = bytes_of("0b00000000130030000102030405060708", reply);
     EXPECT("the budget is spent", 0x27, coe_desk_receive(&desk, 0, reply, size, data, 64).number);
     EXPECT("and nothing is stored", 0, data[0]);
     EXPECT("the seat is free", 0x12, coe_desk_leave(&desk, 0).number);
     return 0;
 }
 
-int examples(void) { return frames() || replies() || lists() || values() || turns(); }
+/* A drive's name of 18 bytes: segments of seven, and three bytes of the last unused. */
+static int drive_name(void) {
+    static const char *const replies_in_turn[4] = {"0a000000001300304108100012000000", "0a000000001300300041583531313220",
+                                                   "0a0000000013003010736572766f2064", "0a000000001300300772697665000000"};
+    coe_desk desk;
+    coe_answer a;
+    uint8_t frame[16], data[32] = {0}, reply[16];
+    coe_desk_fresh(&desk);
+    EXPECT("enter", 0x01, coe_desk_enter(&desk, 0, 1, 0x1008, 0, NULL, 0).number);
+    for (int i = 0; i < 4; i++) {
+        EXPECT("send", 0x02, coe_desk_send(&desk, 0, frame, 16).number);
+        size_t size = bytes_of(replies_in_turn[i], reply);
+        a = coe_desk_receive(&desk, 0, reply, size, data, sizeof data);
+        EXPECT("receive", i < 3 ? 0x01 : 0x00, a.number);
+    }
+    EXPECT("its length", 18, a.length);
+    EXPECT("the name without holes, and nothing behind it", 0, memcmp(data, "AX5112 servo drive\0\0\0", 21));
+    return 0;
+}
+
+int examples(void) { return frames() || replies() || short_segments() || lists() || values() || turns() || drive_name(); }
