@@ -20,7 +20,7 @@ const SCHEDULE: [usize; 6] = [IDENTITY, IDENTITY, NAME, NAME, IDENTITY, NAME];
 /// Vendor, product, revision and serial number, and a name: sixteen bytes each, eight to a segment.
 fn drive() -> Drive {
     let numbers = [0x0000_0539u32, 0x1234, 7, SERIAL];
-    let drive = Drive::new(20).with(0x1008, 0, b"servo drive 4000");
+    let drive = Drive::new(17).with(0x1008, 0, b"servo drive 4000");
     (1..).zip(numbers).fold(drive, |drive, (sub, number)| drive.with(0x1018, sub, &number.to_le_bytes()))
 }
 

@@ -20,7 +20,7 @@ fn refused<E>(refusal: Refusal) -> TransferError<E> {
 #[test]
 fn uploads_of_every_length() {
     let (desk, mut data) = (desk(), [0xa5; 300]);
-    for mailbox_size in [32, 48, 1486] {
+    for mailbox_size in [16, 32, 48, 1486] {
         for length in (1..=24).chain([48, 100, 255, 256]) {
             let mut handle = Drive::new(mailbox_size).with(0x2000, 5, &long(length)).shared();
             let payload = desk.transfer(Order::upload(0x2000, 5), &mut data, &mut handle).unwrap();
@@ -85,7 +85,7 @@ fn small_buffers() {
 fn budgets() {
     let (desk, mut data) = (desk(), [0; 64]);
     let mut handle = Drive::new(32).with(0x2001, 0, &long(40)).shared();
-    // The first reply, and segments of 20 bytes.
+    // The first reply, and segments of 23 and 17 bytes.
     let error = desk.transfer_within(Order::upload(0x2001, 0), 2, &mut data, &mut handle).unwrap_err();
     assert_eq!(error, refused(Refusal::BudgetSpent));
     assert_eq!(desk.transfer_within(Order::upload(0x2001, 0), 3, &mut data, &mut handle).unwrap().length(), 40);

@@ -6,8 +6,8 @@ use std::convert::Infallible;
 use std::sync::{Arc, Mutex, PoisonError};
 use std::time::Duration;
 
-/// Where a segment's data begin in its reply.
-const SEGMENT_DATA: usize = 12;
+/// Where a segment's data begin in its reply, by ETG.1000.6.
+const SEGMENT_DATA: usize = 9;
 
 const NOT_FOUND: u32 = 0x0602_0000;
 const SUB_INDEX_NOT_FOUND: u32 = 0x0609_0011;
@@ -96,10 +96,9 @@ impl Drive {
                 let rest = chunk.split_off(chunk.len().min(self.mailbox_size - SEGMENT_DATA));
                 let unused = 7usize.saturating_sub(chunk.len());
                 let command = u8::from(rest.is_empty()) | (unused as u8) << 1 | u8::from(toggle) << 4;
-                let mut reply = front(3 + chunk.len() + unused, 3, command);
-                reply.resize(SEGMENT_DATA, 0);
+                chunk.resize(chunk.len() + unused, 0);
+                let mut reply = front(3 + chunk.len(), 3, command);
                 reply.extend(chunk);
-                reply.resize(reply.len() + unused, 0);
                 self.replies.push_back(reply);
                 self.half_sent = Some((rest, !toggle)).filter(|left| !left.0.is_empty());
             }
