@@ -3,6 +3,9 @@ use coe_desk::{frames, judge, reads, Answer, Desk, Expected, Judged, ListKind, O
 
 const SEAT: Seat = Seat::ALL[0];
 const UPLOAD: Expected = Expected::Upload { index: 0x1018, sub_index: SubIndex::Index(1) };
+const DOWNLOAD: Expected = Expected::Download { index: 0x1018, sub_index: SubIndex::Index(1) };
+const LIST: Expected = Expected::List { begun: false, earlier: 0 };
+const SEGMENT: Expected = Expected::Segment { earlier: 0 };
 
 fn bytes(text: &str) -> Vec<u8> {
     (0..text.len()).step_by(2).map(|at| u8::from_str_radix(&text[at..at + 2], 16).unwrap()).collect()
@@ -60,7 +63,10 @@ fn the_desk_sends_what_the_writers_write() {
 #[test]
 fn short_reply_and_unlisted_type() {
     let mut data = [0xa5; 64];
-    assert_eq!(judge(UPLOAD, &bytes("0a00000000130030431810"), &mut data), Err(Refusal::Undecodable));
+    let short = [(UPLOAD, "0a00000000130030431810"), (DOWNLOAD, "0a00000000130030601810"), (LIST, "0800000000130080020000")];
+    for (expected, eleven) in short {
+        assert_eq!(judge(expected, &bytes(eleven), &mut data), Err(Refusal::Undecodable), "{expected:?}");
+    }
     assert_eq!(judge(UPLOAD, &bytes("0a0000000016003043181001"), &mut data), Err(Refusal::Undecodable));
     assert_eq!(data, [0xa5; 64]);
 }
@@ -79,18 +85,28 @@ fn segments() {
     let expected = Expected::Segment { earlier: 3 };
     let judged = judge(expected, &bytes("0a000000001300300e00000000000000"), &mut data);
     assert_eq!(judged, Ok(Judged::RequestDue { chunk: 0 }));
-    let judged = judge(expected, &bytes("0b000000001300300e0000000102030405060708"), &mut data);
+    let judged = judge(expected, &bytes("0b000000001300300e0102030405060708"), &mut data);
     assert_eq!(judged, Ok(Judged::RequestDue { chunk: 8 }));
     assert_eq!(data[..12], [0, 0, 0, 1, 2, 3, 4, 5, 6, 7, 8, 0]);
     assert_eq!(judge(expected, &bytes("020000000013003000000000"), &mut data), Err(Refusal::LengthField));
 }
 
 #[test]
+fn segment_replies_of_9_to_11_bytes() {
+    let mut data = [0xa5; 4];
+    assert_eq!(judge(SEGMENT, &bytes("0300000000130030"), &mut data), Err(Refusal::Undecodable));
+    assert_eq!(judge(SEGMENT, &bytes("030000000013003000"), &mut data), Ok(Judged::RequestDue { chunk: 0 }));
+    assert_eq!(data, [0xa5; 4]);
+    assert_eq!(judge(SEGMENT, &bytes("0a000000001300300b6162"), &mut data), Ok(Judged::Done { length: 2 }));
+    assert_eq!(data, *b"ab\xa5\xa5");
+}
+
+#[test]
 fn lists() {
     let mut data = [0; 8];
-    let first = judge(Expected::List { begun: false, earlier: 0 }, &bytes("0a000000001300808200000001000010"), &mut data);
+    let first = judge(LIST, &bytes("0a000000001300808200000001000010"), &mut data);
     assert_eq!(first, Ok(Judged::ReplyDue { chunk: 2, begun: true }));
-    let other = judge(Expected::List { begun: false, earlier: 0 }, &bytes("0a000000001300800400000001000010"), &mut data);
+    let other = judge(LIST, &bytes("0a000000001300800400000001000010"), &mut data);
     assert_eq!(other, Ok(Judged::ReplyDue { chunk: 0, begun: false }));
     let last = judge(Expected::List { begun: true, earlier: 2 }, &bytes("0a00000000130080020000001810"), &mut data);
     assert_eq!(last, Ok(Judged::Done { length: 4 }));
@@ -138,7 +154,7 @@ fn budget_of_2_and_a_first_segment_that_is_not_the_last() {
     let first = desk.receive(SEAT, &bytes("0a000000001300304018100120000000"), &mut data);
     assert_eq!(first, Ok(Answer::RequestDue));
     desk.send(SEAT, &mut frame).unwrap();
-    let second = desk.receive(SEAT, &bytes("0b00000000130030000000000102030405060708"), &mut data);
+    let second = desk.receive(SEAT, &bytes("0b00000000130030000102030405060708"), &mut data);
     assert_eq!(second, Err(Refusal::BudgetSpent));
     assert_eq!(data, [0; 64]);
     assert_eq!(desk.leave(SEAT), Err(Refusal::SeatEmpty));

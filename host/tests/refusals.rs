@@ -13,6 +13,15 @@ fn awaiting(order: Order<'_>, budget: u16) -> Desk {
     desk
 }
 
+/// A desk whose head, the first seat, awaits its first segment.
+fn awaiting_segment() -> Desk {
+    let mut desk = awaiting(Order::upload(0x1018, 1), 9);
+    let segments_follow = reply(&[(8, 0x41), (12, 8), (13, 0), (14, 0), (15, 0)]);
+    assert_eq!(desk.receive(FIRST, &segments_follow, &mut [0; 8]), Ok(Answer::RequestDue));
+    desk.send(FIRST, &mut [0; 16]).unwrap();
+    desk
+}
+
 /// A reply with some bytes of its own.
 fn reply(changed: &[(usize, u8)]) -> Vec<u8> {
     let mut reply = UPLOAD.to_vec();
@@ -22,10 +31,15 @@ fn reply(changed: &[(usize, u8)]) -> Vec<u8> {
     reply
 }
 
-/// The reply to `order` ends the transfer with `refusal`, in its number's class, and the data stay as they were.
+/// The reply to `order` ends the transfer with `refusal`.
 fn ends(order: Order<'_>, reply: &[u8], number: u8, refusal: Refusal) {
-    let (mut desk, mut data) = (awaiting(order, 9), [0xa5; 8]);
-    assert_eq!(desk.receive(FIRST, reply, &mut data), Err(refusal));
+    ends_at(awaiting(order, 9), reply, number, refusal);
+}
+
+/// The reply ends the head's transfer with `refusal`, in its number's class, and the data stay as they were.
+fn ends_at(mut desk: Desk, reply: &[u8], number: u8, refusal: Refusal) {
+    let mut data = [0xa5; 8];
+    assert_eq!(desk.receive(FIRST, reply, &mut data), Err(refusal), "{reply:02x?}");
     assert_eq!((refusal.number(), refusal.is_over(), data), (number, true, [0xa5; 8]));
     assert_eq!(desk.leave(FIRST), Err(Refusal::SeatEmpty), "the seat is free again");
 }
@@ -106,6 +120,27 @@ fn replies_that_end_a_transfer() {
     ends(order, &UPLOAD[..15], 0x25, Refusal::MissingBytes);
     ends(list, &reply(&[(0, 7), (7, 0x80), (8, 2)]), 0x26, Refusal::LengthField);
     ends(list, &reply(&[(0, 11), (7, 0x80), (8, 2)]), 0x25, Refusal::MissingBytes);
+}
+
+#[test]
+fn segment_replies_that_end_a_transfer() {
+    let ends = |reply: &[u8], number, refusal| ends_at(awaiting_segment(), reply, number, refusal);
+    let segment = reply(&[(8, 0x00)]);
+    ends(&segment[..8], 0x20, Refusal::Undecodable);
+    ends(&reply(&[(8, 0xa0)])[..9], 0x20, Refusal::Undecodable);
+    let emergency = [&reply(&[(7, 0x10), (12, 0x10), (13, 0x42), (14, 9)])[..], &[0; 4]].concat();
+    for length in 9..20 {
+        ends(&emergency[..length], 0x20, Refusal::Undecodable);
+    }
+    ends(&emergency, 0x21, Refusal::Emergency { code: 0x4210, register: 9 });
+    let abort = reply(&[(8, 0x80), (12, 0), (13, 0), (14, 4), (15, 5)]);
+    for length in 9..16 {
+        ends(&abort[..length], 0x20, Refusal::Undecodable);
+    }
+    ends(&abort, 0x22, Refusal::Aborted { code: AbortCode::SdoTimeout, index: 0x1018, sub_index: 1 });
+    ends(&reply(&[(5, 0x12), (8, 0x00)])[..9], 0x23, Refusal::WrongReply);
+    ends(&segment[..15], 0x25, Refusal::MissingBytes);
+    ends(&reply(&[(0, 2), (8, 0x00)])[..9], 0x26, Refusal::LengthField);
 }
 
 #[test]

@@ -56,6 +56,13 @@ fn a_seat_above_7_is_10_at_every_call() {
 }
 
 #[test]
+fn nine_bytes_are_a_reply_for_a_segment_alone() {
+    let reply = b"\x03\0\0\0\0\x13\0\x30\x01";
+    let numbers = [1, 3, 4, 7, 8].map(|kind| judge(kind, 0, 0, 0, reply, &mut []).number);
+    assert_eq!(numbers, [0x20, 0x20, 0x20, 0x00, 0x20]);
+}
+
+#[test]
 fn what_the_types_exclude_is_15() {
     let mut record = Record::fresh();
     let mut buffer = [0xa5; 16];
