@@ -102,7 +102,7 @@ fn storing() {
     if timing::counting() {
         return;
     }
-    print_row("storing", "storing a chunk of 1,474 bytes", || works::stored(LONGEST), || works::copied(LONGEST));
+    print_row("storing", "storing a chunk of 1,477 bytes", || works::stored(LONGEST), || works::copied(LONGEST));
 }
 
 /// What a reply costs by its chunk's length, by N and by the line's length.

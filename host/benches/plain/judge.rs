@@ -3,6 +3,11 @@ use super::chunk::Chunk;
 use super::numbered;
 use crate::ffi::Answer;
 
+/// The least length of a reply that is no segment's.
+const LEAST: usize = 12;
+const SEGMENT_LEAST: usize = 9;
+const SEGMENT_AT: u16 = 9;
+
 /// What a reply is judged by. `earlier` is the sum of the chunks before it.
 #[derive(Debug, Clone, Copy)]
 pub enum Expected {
@@ -48,15 +53,15 @@ fn expect_listed(listed: bool) -> Result<(), Answer> {
     }
 }
 
-/// Twelve bytes, and a type and service that are listed.
-fn expect_header(reply: &[u8]) -> Result<(), Answer> {
-    expect_len(reply, 12)?;
+/// At least so many bytes, and a type and service that are listed.
+fn expect_header(reply: &[u8], least: usize) -> Result<(), Answer> {
+    expect_len(reply, least)?;
     expect_listed(matches!(reply[5] & 0x0f, 0..=5 | 15) && matches!(reply[7] >> 4, 1..=8))
 }
 
 /// The rules that every SDO reply is judged by: an emergency or an abort comes before the type.
-fn expect_sdo(reply: &[u8]) -> Result<(), Answer> {
-    expect_header(reply)?;
+fn expect_sdo(reply: &[u8], least: usize) -> Result<(), Answer> {
+    expect_header(reply, least)?;
     let specifier = reply[8] >> 5;
     expect_listed(specifier <= 4)?;
     if reply[7] >> 4 == 1 {
@@ -74,7 +79,7 @@ fn expect_sdo(reply: &[u8]) -> Result<(), Answer> {
 }
 
 fn expect_object(reply: &[u8], index: u16, sub: u8) -> Result<(), Answer> {
-    expect_sdo(reply)?;
+    expect_sdo(reply, LEAST)?;
     if word(reply, 9) != index || reply[11] != sub {
         return Err(numbered(0x23));
     }
@@ -109,7 +114,7 @@ fn segment(reply: &[u8], earlier: u32, room: usize) -> Result<Verdict, Answer> {
         7 => 7 - u16::from(reply[8] >> 1 & 7),
         len => len,
     };
-    let chunk = Chunk { from: 12, len, at: earlier }.there(reply)?.fits(room)?;
+    let chunk = Chunk { from: SEGMENT_AT, len, at: earlier }.there(reply)?.fits(room)?;
     Ok(Verdict { next: if reply[8] & 1 != 0 { Next::Done } else { Next::RequestDue }, chunk })
 }
 
@@ -133,8 +138,8 @@ pub fn verdict(expected: Expected, reply: &[u8], room: usize) -> Result<Verdict,
             expect_len(reply, 16)?;
             Ok(Verdict { next: Next::Done, chunk: Chunk::none(0) })
         }
-        Expected::Segment { earlier } => expect_sdo(reply).and_then(|()| segment(reply, earlier, room)),
-        Expected::List { begun, earlier } => expect_header(reply).and_then(|()| list(reply, begun, earlier, room)),
+        Expected::Segment { earlier } => expect_sdo(reply, SEGMENT_LEAST).and_then(|()| segment(reply, earlier, room)),
+        Expected::List { begun, earlier } => expect_header(reply, LEAST).and_then(|()| list(reply, begun, earlier, room)),
     }
 }
 

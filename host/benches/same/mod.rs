@@ -23,7 +23,7 @@ impl Chance {
         let mut reply = match self.below(6) {
             0 => EXPEDITED.to_vec(),
             1 => b"\x0e\0\0\0\0\x13\0\x30\x41\x18\x10\x04\x04\0\0\0\x01\x02\x03\x04".to_vec(),
-            2 => b"\x0a\0\0\0\0\x13\0\x30\0\0\0\0\x01\x02\x03\x04\x05\x06\x07\x08".to_vec(),
+            2 => b"\x0a\0\0\0\0\x13\0\x30\0\x01\x02\x03\x04\x05\x06\x07\x08".to_vec(),
             3 => ABORT.to_vec(),
             4 => b"\x0a\0\0\0\0\x13\0\x10\0\0\0\0\x10\x23\x01\0\0\0\0\0".to_vec(),
             _ => b"\x0c\0\0\0\0\x13\0\x80\x82\0\x01\0\x01\0\0\x10\x18\x10\x00\x20".to_vec(),

@@ -11,8 +11,13 @@ pub const SEGMENT: u8 = 7;
 /// The longest data buffer that may be lent.
 pub const ROOM: usize = 131_070;
 
-/// The longest chunk of a reply of 1,486 bytes: it begins at byte 12.
-pub const LONGEST: usize = 1_474;
+/// Where a segment's chunk begins in its reply, and that of a list's later fragment.
+pub const SEGMENT_AT: usize = 9;
+const LIST_AT: usize = 12;
+
+/// The longest chunks of a reply of 1,486 bytes.
+pub const LONGEST: usize = 1_486 - SEGMENT_AT;
+const LONGEST_OF_LIST: usize = 1_486 - LIST_AT;
 
 /// An expedited reply with four bytes.
 pub const EXPEDITED: [u8; 16] = *b"\x0a\0\0\0\0\x13\0\x30\x43\x18\x10\x04\x78\x56\x34\x12";
@@ -45,12 +50,12 @@ fn reply(length: usize, service: u8, command: u8, from: usize, chunk: &[u8]) -> 
 pub fn segment(chunk: &[u8], last: bool) -> Vec<u8> {
     let none = 7_usize.saturating_sub(chunk.len());
     let padded = [chunk, &vec![0; none]].concat();
-    reply(3 + padded.len(), 3, (none as u8) << 1 | u8::from(last), 12, &padded)
+    reply(3 + padded.len(), 3, (none as u8) << 1 | u8::from(last), SEGMENT_AT, &padded)
 }
 
 /// A list's fragment, which others follow or none. The first has the list's kind before its chunk.
 pub fn fragment(chunk: &[u8], first: bool, last: bool) -> Vec<u8> {
-    reply(8 + chunk.len(), 8, if last { 0x02 } else { 0x82 }, if first { 14 } else { 12 }, chunk)
+    reply(8 + chunk.len(), 8, if last { 0x02 } else { 0x82 }, if first { LIST_AT + 2 } else { LIST_AT }, chunk)
 }
 
 /// So many bytes that are not alike.
@@ -67,8 +72,8 @@ pub fn uploads(payload: &[u8]) -> Vec<Vec<u8>> {
 
 /// The replies by which a drive sends an object list.
 pub fn lists(payload: &[u8]) -> Vec<Vec<u8>> {
-    let (first, later) = payload.split_at(LONGEST - 2);
-    let last = (later.len() - 1) / LONGEST;
-    let fragments = later.chunks(LONGEST).enumerate().map(|(i, chunk)| fragment(chunk, false, i == last));
+    let (first, later) = payload.split_at(LONGEST_OF_LIST - 2);
+    let last = (later.len() - 1) / LONGEST_OF_LIST;
+    let fragments = later.chunks(LONGEST_OF_LIST).enumerate().map(|(i, chunk)| fragment(chunk, false, i == last));
     std::iter::once(fragment(first, true, false)).chain(fragments).collect()
 }

@@ -1,5 +1,5 @@
 //! What the storing of a chunk takes.
-use super::inputs::{payload, segment, SEGMENT};
+use super::inputs::{payload, segment, SEGMENT, SEGMENT_AT};
 use super::{judge, CALLS};
 use crate::ffi;
 use crate::timing::{each, opaque};
@@ -14,7 +14,7 @@ pub fn stored(length: usize) -> f64 {
 pub fn copied(length: usize) -> f64 {
     let reply = segment(&payload(length), false);
     let mut data = vec![0; length];
-    let (chunk, data) = (opaque(&reply[12..]), opaque(&mut data[..]));
+    let (chunk, data) = (opaque(&reply[SEGMENT_AT..]), opaque(&mut data[..]));
     let copies = each(CALLS, || opaque(&mut *data).copy_from_slice(opaque(chunk)));
     let none = each(CALLS, || {
         (opaque(&mut *data), opaque(chunk));
