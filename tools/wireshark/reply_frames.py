@@ -66,25 +66,19 @@ def abort(index, sub, code, service):
                judged.abort, service)
 
 
-def from_byte_12(data):
-    """The chunk that the judge takes where data stand from byte 9 on."""
-    return (data + bytes(3))[3:] or None
-
-
 def segment(toggle, last, data):
     """A segment has at least seven bytes, of which the unused count says how many are none of the data."""
     unused, room = max(7 - len(data), 0), data.ljust(7, b"\0")
     parts = {"specifier": 0, "toggle": toggle, "last": last, "unused": unused, "data": data}
-    kind, row = ("segment, bytes unused", "W9") if unused else ("segment", "W8")
-    return reply(kind, REPLY, bytes([toggle << 4 | unused << 1 | last]) + room, parts, {"data": (row, room, from_byte_12(data))},
-                 judged.segment)
+    kind, otherwise = ("segment, bytes unused", {"data": ("W9", room, data or None)}) if unused else ("segment", {})
+    return reply(kind, REPLY, bytes([toggle << 4 | unused << 1 | last]) + room, parts, otherwise, judged.segment)
 
 
 def short_segment(toggle, last, data):
     """A segment whose length field is below the standard's 10."""
     parts = {"specifier": 0, "toggle": toggle, "last": last, "unused": 0, "data": data}
     otherwise = {part: ("W10", None, value) for part, value in parts.items()}
-    otherwise.update(mark=("W10", "malformed", None), data=("W10", None, from_byte_12(data)))
+    otherwise["mark"] = ("W10", "malformed", None)
     return reply("segment below length 10", REPLY, bytes([toggle << 4 | last]) + data, parts, otherwise, judged.segment)
 
 
