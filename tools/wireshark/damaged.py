@@ -1,5 +1,4 @@
 """Frames with one bit changed on the wire: whether the comparison notices, and which bits Wireshark does not look at."""
-import capture
 import comparison
 
 
@@ -28,29 +27,32 @@ UNREAD = {
     "list, later fragment, incomplete": whole(9, 10),
     "information error": whole(9, 10),
     "emergency": whole(8, 16),
+    "abort as service 2, on CAN": {8: 0x1f},
+    "abort as service 3, on CAN": {8: 0x1f},
 }
 
 
-def unread(kind):
-    return {**NOWHERE_READ, **UNREAD.get(kind, {})}
+def unread(frame):
+    masks = {**NOWHERE_READ, **UNREAD.get(frame.kind, {})}
+    return {at: mask for at, mask in masks.items() if at >= frame.first}
 
 
 def set_but_unread(request):
     """The bytes of a request with a bit set that Wireshark does not look at. Document 01 has zeros there, and behind the frame."""
-    masks = {**unread(request.kind), **whole(len(request.packed()), len(request.mailbox))}
+    masks = {**unread(request), **whole(len(request.packed()), len(request.mailbox))}
     return [at for at, mask in masks.items() if request.mailbox[at] & mask]
 
 
 def places(frame):
-    return [(at, bit) for at in range(len(frame.packed())) for bit in range(8)]
+    return [(at, bit) for at in range(frame.first, len(frame.packed())) for bit in range(8)]
 
 
 def changed(mailbox, at, bit):
     return mailbox[:at] + bytes([mailbox[at] ^ 1 << bit]) + mailbox[at + 1:]
 
 
-def on_the_wire(frame):
-    return [capture.on_the_wire(changed(frame.mailbox, at, bit), frame.call) for at, bit in places(frame)]
+def on_the_wire(reader, frame):
+    return [reader.on_the_wire(frame, changed(frame.mailbox, at, bit)) for at, bit in places(frame)]
 
 
 def before_wireshark(frame, readings, ours):
@@ -61,8 +63,8 @@ def before_wireshark(frame, readings, ours):
         wrong |= parts & read.keys()
         if not parts:
             unnoticed[at] = unnoticed.get(at, 0) | 1 << bit
-    for at in sorted({*unnoticed, *unread(frame.kind)}):
-        silent, listed = unnoticed.get(at, 0), unread(frame.kind).get(at, 0)
+    for at in sorted({*unnoticed, *unread(frame)}):
+        silent, listed = unnoticed.get(at, 0), unread(frame).get(at, 0)
         if silent != listed:
             yield f"byte {at}: changes of the bits {silent:#04x} go unnoticed, and tools/wireshark/damaged.py lists {listed:#04x}"
     for part in frame.asked.keys() - wrong:

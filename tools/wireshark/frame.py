@@ -11,6 +11,7 @@ class Frame:
     call: tuple = ()  # a request: the archive's call that writes it
     mailbox: bytes = b""
     ours: typing.Callable = None  # a reply: asks the archive's judge for the parts that it reads
+    first = 0  # the first byte of the mailbox that is on the wire
 
     def packed(self):
         """The bytes that the length field names, with the six of the header."""

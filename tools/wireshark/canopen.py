@@ -1,0 +1,56 @@
+"""The eight bytes from byte 8 of a reply on as those of a CAN frame, and the fields of Wireshark's CANopen dissector."""
+import struct
+
+from frame import Frame
+
+NAME = "CANopen"
+LINK, OPTIONS, LAYER = 227, ("-d", "can.subdissector,canopen"), "canopen"
+SDO_REPLY_OF_NODE_1 = 0x581
+FIRST, BEHIND = 8, 16
+SEGMENT, ABORT = 0, 4
+
+# Wireshark's fields by the names of document 01's layouts. A field on neither list fails the comparison.
+FIELDS = {
+    "sdo.scs": "specifier", "sdo.toggle": "toggle", "sdo.n": "unused", "sdo.c": "last", "sdo.data.bytes": "data",
+    "sdo.main_idx": "index", "sdo.sub_idx": "sub-index", "sdo.abort_code": "abort code",
+}
+# The CAN frame's number and its parts, and the command byte, whose parts are compared one by one.
+HOLDERS = {"cob_id", "function_code", "node_id", "sdo.cmd"}
+# The rows of docs/DIFFERENCES.md that hold for this dissector too: it names the unused count and shows all seven bytes.
+ROWS = {"W9"}
+
+
+class OnCan(Frame):
+    first = FIRST
+
+    def packed(self):
+        return self.mailbox[:BEHIND]
+
+
+def on_the_wire(_, mailbox):
+    return struct.pack(">IB3x", SDO_REPLY_OF_NODE_1, BEHIND - FIRST) + mailbox[FIRST:BEHIND]
+
+
+def known(parts):
+    return {part: value for part, value in parts.items() if part in FIELDS.values()}
+
+
+def judged(frame):
+    """The judge cuts a segment's seven bytes by the unused count, so its chunk tells the count."""
+    def ours(ask, mailbox):
+        parts = known(frame.ours(ask, mailbox))
+        if parts.get("last") is not None:
+            parts["unused"] = 7 - len(parts["data"] or b"")
+        return parts
+    return ours
+
+
+def on_can(frame):
+    otherwise = {part: row for part, row in frame.otherwise.items() if row[0] in ROWS}
+    return OnCan(f"{frame.kind}, on CAN", known(frame.asked), otherwise, mailbox=frame.mailbox, ours=judged(frame))
+
+
+def replies(frames):
+    """The segments of up to seven bytes and the aborts."""
+    return [on_can(frame) for frame in frames
+            if frame.ours and frame.asked.get("specifier") in (SEGMENT, ABORT) and len(frame.packed()) == BEHIND]
