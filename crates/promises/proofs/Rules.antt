@@ -12,6 +12,7 @@ use Rattle.wire.specs.Words.{pick, both, firstOf}
 use Rattle.wire.proofs.Cases.{by}
 use Rattle.mailbox.specs.Fields.{the, lengthField, mailboxType, service, expedited, size, specifier, index, subIndex, lastSegment, unusedCount, operation, incomplete}
 use Rattle.mailbox.specs.Numbers.{serviceNumber, commandNumber}
+use Rattle.mailbox.specs.Headers.{sdoHeaderOf, segmentedOf, sdoInfoOf}
 use Rattle.mailbox.specs.declared.numbers.MailboxType.{MailboxType}
 use Rattle.mailbox.specs.declared.numbers.ListedType.the-variants as ListedType
 use Rattle.mailbox.specs.declared.numbers.CoeService.{CoeService}
@@ -22,22 +23,25 @@ use Rattle.judge.specs.Answers.{answerOf}
 use Rattle.judge.specs.Headers.{wrongType, wrongAddress}
 use Rattle.judge.specs.Alarm.{emergencyIn, abortIn, alarmIn, unlessAlarm}
 use Rattle.judge.specs.Chunk.{lacking, chunkAt, onChunk}
-use Rattle.judge.specs.Reply.{inOrder, replyTo}
+use Rattle.judge.specs.Reply.{onHeaders, inOrder, replyTo}
 use Rattle.judge.specs.Download.{downloadOf, judgeDownload}
 use Rattle.judge.specs.Upload.{expeditedOf, wholeOf, normalOf, uploadOf, judgeUpload}
-use Rattle.judge.specs.Segment.{chunkLength, segmentOf, judgeSegment}
-use Rattle.judge.specs.Information.{fragmentAt, fragmentOf, judgeList}
+use Rattle.judge.specs.Segment.{chunkLength, segmentOf, onSegmentHeaders, judgeSegment}
+use Rattle.judge.specs.Information.{fragmentAt, fragmentOf, onInformationHeaders, judgeList}
 use Rattle.judge.specs.declared.Verdict.{Verdict}
 use Rattle.judge.specs.declared.Verdict.the-variants.{Refused, Segment, Fragment}
 use Rattle.judge.specs.declared.alarm.Alarm.the-variants.{Raised, Quiet}
 use Rattle.judge.specs.declared.chunk.Chunk.the-variants.{There, Missing}
 use Rattle.judge.specs.declared.headers.Headers.{Headers}
+use Rattle.judge.specs.declared.headers.HeadersRead.the-variants as HeadersRead
+use Rattle.judge.specs.declared.headers.SegmentHeadersRead.the-variants as SegmentHeadersRead
+use Rattle.judge.specs.declared.headers.InformationHeadersRead.the-variants as InformationHeadersRead
 use Rattle.transfer.specs.Judgement.{judgeReply}
 use Rattle.transfer.specs.declared.due.Reply.the-variants as reply
 use Rattle.promises.specs.Finding.{Finding, refuse, emergency, aborted, done, thenRequest, thenReply}
 use Rattle.promises.specs.Rules.{Rule, under, from, fewerFrom, at, isSet, sdo, addressed, download, expeditedUpload, otherUpload, segmentChunk, segmentPlace, segment, chunkPlace, information, rules, JudgedByRules}
 use Rattle.promises.proofs.Lines.{Tells, line, guarded, any-of}
-use Rattle.promises.proofs.Decoded.{specifier-look, operation-look, decoded, sdoBy, sdo-read, segmentBy, segment-read, informationBy, information-read}
+use Rattle.promises.proofs.Decoded.{specifier-look, operation-look, decoded, inTurn, sdoIn, sdo-read, segmentIn, segment-read, informationIn, information-read}
 
 -- ---- tests that the two say differently
 
@@ -97,12 +101,17 @@ module _ (s : List ℕ) where
   -- rules 1 to 4, and the kind's own behind them
   module _ (i b : ℕ) (f : Headers → Verdict) (kind : List Rule) where
     reply-told : ((t : MailboxType) (v : CoeService) (k : CoeCommand)
-        → Tells s (sdoBy s f (ListedType.Listed t) (ListedService.Listed v) (ListedCommand.Listed k)) (firstOf kind))
+        → Tells s
+        (onHeaders
+        (inTurn s HeadersRead.Undecodable (λ m c. sdoIn m c (sdoHeaderOf s (ListedCommand.Listed k))) (ListedType.Listed t) (ListedService.Listed v))
+        f)
+        (firstOf kind))
         → Tells s (replyTo i b s f) (firstOf (sdo 12 s ++ addressed i b s ++ kind))
     unfolding firstOf inOrder replyTo wrongAddress wrongType answerOf
     reply-told p =
-        rw (sdo-read s _)
-        (decoded s 12 (specifier-look (the specifier s)) (sdoBy s _) (λ b c. refl) (λ t c. refl) (λ t v. refl) λ t v k et ev ek.
+        rw (sdo-read s)
+        (decoded s 12 (specifier-look (the specifier s)) onHeaders _ HeadersRead.Undecodable (λ m c k. sdoIn m c (sdoHeaderOf s k)) refl (λ m c. refl)
+        λ t v k et ev ek.
         alarm-lines v k ev ek _
         (rw et
         (any-of s (not (eqb (the mailboxType s) 3)) (not (eqb (the index s) i)) (not (eqb (the subIndex s) b)) _ _ (p t v k))))
@@ -145,8 +154,9 @@ module _ (s : List ℕ) where
   segment-told : (earlier n : ℕ) → Tells s (judgeSegment earlier n s) (firstOf (sdo 9 s ++ segment earlier n s))
   unfolding firstOf inOrder judgeSegment wrongType segmentOf answerOf
   segment-told earlier n =
-      rw (segment-read s _)
-      (decoded s 9 (specifier-look (the specifier s)) (segmentBy s _) (λ b c. refl) (λ t c. refl) (λ t v. refl) λ t v k et ev ek.
+      rw (segment-read s)
+      (decoded s 9 (specifier-look (the specifier s)) onSegmentHeaders _ SegmentHeadersRead.Undecodable (λ m c k. segmentIn m c (segmentedOf s k))
+      refl (λ m c. refl) λ t v k et ev ek.
       alarm-lines v k ev ek _
       (rw (et, chunk-length (the lengthField s) (the unusedCount s))
       (line s (not (eqb (the mailboxType s) 3)) _ _
@@ -168,9 +178,9 @@ module _ (s : List ℕ) where
   unfolding firstOf judgeList fragmentOf answerOf
   information-told begun earlier n =
       let k = the lengthField s - 8 in
-      rw (information-read s _)
-      (decoded s 12 (operation-look (the operation s)) (informationBy s _) (λ b c. refl) (λ t c. refl) (λ t v. refl)
-      λ t v o et ev eo.
+      rw (information-read s)
+      (decoded s 12 (operation-look (the operation s)) onInformationHeaders _ InformationHeadersRead.Undecodable
+      (λ m c o. informationIn m c (sdoInfoOf s o)) refl (λ m c. refl) λ t v o et ev eo.
       rw (eo, other-way (eqb (the operation s) 2), fragment-place begun)
       (line s (not (eqb (the operation s) 2)) _ _
       (line s (ltb (the lengthField s) 8) _ _

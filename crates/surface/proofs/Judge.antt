@@ -11,6 +11,7 @@ use Rattle.wire.specs.Words.{pick, either, firstOf}
 use Rattle.wire.proofs.Cases.{by, either-true, either-false}
 use Rattle.mailbox.specs.Fields.{the, mailboxType, service, operation}
 use Rattle.mailbox.specs.Numbers as names
+use Rattle.mailbox.specs.Headers.{sdoInfoOf}
 use Rattle.mailbox.specs.declared.numbers.ListedType.{ListedType}
 use Rattle.mailbox.specs.declared.numbers.ListedType.the-variants as ListedType
 use Rattle.mailbox.specs.declared.numbers.ListedService.{ListedService}
@@ -22,11 +23,12 @@ use Rattle.judge.specs.Storage.{stored}
 use Rattle.judge.specs.Download.{judgeDownload}
 use Rattle.judge.specs.Upload.{judgeUpload}
 use Rattle.judge.specs.Segment.{judgeSegment}
-use Rattle.judge.specs.Information.{fragmentAt, fragmentOf, judgeList}
+use Rattle.judge.specs.Information.{fragmentAt, fragmentOf, onInformationHeaders, judgeList}
 use Rattle.judge.specs.declared.Answer.{Answer}
 use Rattle.judge.specs.declared.Verdict.{Verdict}
 use Rattle.judge.specs.declared.Verdict.the-variants.{Refused, Segment, Fragment, ReplyDue}
 use Rattle.judge.specs.declared.headers.InformationHeaders.{InformationHeaders}
+use Rattle.judge.specs.declared.headers.InformationHeadersRead.the-variants as InformationHeadersRead
 use Rattle.judge.proofs.Cases.{Alarming, upload-cases, download-cases, segment-cases, fragment-rule}
 use Rattle.judge.proofs.Laid.{laid-nil}
 use Rattle.judge.proofs.Payload.{part-length}
@@ -34,7 +36,7 @@ use Rattle.transfer.specs.Judgement.{judgeReply}
 use Rattle.promises.specs.Finding.{number, refuse, finding}
 use Rattle.promises.specs.Rules.{under}
 use Rattle.promises.proofs.Lines.{Look, missing, present}
-use Rattle.promises.proofs.Decoded.{operation-look, informationBy, information-read}
+use Rattle.promises.proofs.Decoded.{operation-look, inTurn, informationIn, information-read}
 use Rattle.promises.proofs.Rules.{judged-by-rules}
 use Rattle.linked.specs.Judging.{unjudged, verdictFor, placeFor, begunBy, toldOf, rulingFor, Judges}
 use Rattle.surface.specs.Judge.{kinds, answers, judgeRules, besides, placeAt, JudgesReply}
@@ -88,7 +90,8 @@ module _ (kind : ℕ) (begun : Bool) (earlier n : ℕ) (s : List ℕ) where
 
   decoded : (a : ListedType) (b : ListedService) {q : ListedOpCode} {among : Bool}
       → Look names.operationNumber ListedOpCode.Listed ListedOpCode.Unlisted (the operation s) q among
-      → Told kind s (informationBy s judgedAs a b q)
+      → Told kind s
+      (onInformationHeaders (inTurn s InformationHeadersRead.Undecodable (λ m c. informationIn m c (sdoInfoOf s q)) a b) judgedAs)
   decoded ListedType.Unlisted b l = refused
   decoded (ListedType.Listed t) ListedService.Unlisted l = refused
   decoded (ListedType.Listed t) (ListedService.Listed v) (missing e m) = rw e refused
@@ -98,7 +101,7 @@ module _ (kind : ℕ) (begun : Bool) (earlier n : ℕ) (s : List ℕ) where
   list-told : Told kind s (judgeList begun earlier n s)
   unfolding judgeList
   list-told =
-      rw (information-read s judgedAs)
+      rw (information-read s)
       (by (under 12 s)
       (λ y. rw y refused)
       (λ m. rw m (decoded (names.typeOf (the mailboxType s)) (names.serviceOf (the service s)) (operation-look (the operation s)))))
