@@ -7,8 +7,9 @@ use crate::ran::{End, Ran};
 use crate::transfer::{parse_entry, Transfer};
 use std::path::Path;
 
-/// Differences that a row answered by the Rust alone may still meet: its 00 is the transfer's, and its N the lent one.
-const OF_EVERY_ROW: [&str; 2] = ["D15", "D18"];
+/// Differences that a row answered by the Rust alone may still meet: its 00 is the transfer's, its N the lent one, and its segment replies
+/// are laid out by ETG.1000.6, three bytes shorter than those that the Rust was given.
+const OF_EVERY_ROW: [&str; 3] = ["D15", "D18", "D21"];
 
 /// A row of vectors.tsv: tag, entry, replies, number, payload or values, frames, replies judged, next counter.
 pub struct Row {

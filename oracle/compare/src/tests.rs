@@ -1,6 +1,7 @@
 use crate::case::{Case, Setting};
-use crate::differences::{all, Listed};
+use crate::differences::{all, explain, Listed};
 use crate::generate;
+use crate::transfer::Transfer;
 
 const LIST: &str = concat!(env!("CARGO_MANIFEST_DIR"), "/../../docs/DIFFERENCES.md");
 
@@ -22,6 +23,15 @@ fn without_its_row_a_differences_input_fails() {
         assert!(case.compare(&setting(&list())).unwrap().contains(&difference.id));
         assert!(case.compare(&setting(&without.join("\n"))).is_err(), "{} is not needed", difference.id);
     }
+}
+
+#[test]
+fn segment_data_at_the_rusts_own_place_are_not_taken_for_ours() {
+    let segment = "read 1008 00 - 2\n0a000000001300304108100002000000\n0a000000001300306b61626364656667";
+    let transfer = Transfer::parse(segment).unwrap();
+    let explained = |stored: &[u8]| explain(&transfer, &setting(&list()).listed, |ran| ran.stored == stored);
+    assert_eq!(explained(b"ab").unwrap(), ["D21"]);
+    assert!(explained(b"de").is_err());
 }
 
 #[test]

@@ -63,6 +63,11 @@ impl Transfer {
         Transfer { kind, index, sub, data: Vec::new(), room, counter: 1, budget: DEFAULT_BUDGET, replies: Vec::new() }
     }
 
+    /// Whose replies behind the first are segments.
+    pub fn is_read(&self) -> bool {
+        matches!(self.kind, Kind::Read | Kind::ReadNumber(_))
+    }
+
     pub fn is_information(&self) -> bool {
         matches!(self.kind, Kind::List | Kind::Quantities)
     }

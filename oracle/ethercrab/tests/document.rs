@@ -1,6 +1,7 @@
 //! The published code over the stand-ins gives the frames and answers that document 01 prints.
 use ethercrab::error::{Error, MailboxError};
 use ethercrab::play::{play, Call, Lent, Number, Outcome, Played};
+use ethercrab::wire::WireError;
 use ethercrab::{frames, CoeAbortCode, ObjectDescriptionListQuery, SubIndex};
 
 fn bytes(hex: &str) -> Vec<u8> {
@@ -41,6 +42,16 @@ fn segments_are_stored_behind_each_other_and_the_rest_is_left() {
     assert_eq!(run.buffer, bytes("0102030405060708a5a5"));
     let toggles: Vec<u8> = run.sent[1..].iter().map(|frame| frame[8]).collect();
     assert_eq!(toggles, [0x60, 0x70]);
+}
+
+/// Document 01: "The chunk starts at byte 12, where the source takes it." Document 02 has it at byte 9.
+#[test]
+fn segment_data_are_taken_from_byte_12_and_eleven_bytes_are_too_short() {
+    let announced = "0a000000001300304118100102000000";
+    let run = played(OBJECT, 4, &[announced, "0a000000001300306b61626364656667"]);
+    assert_eq!(run.outcome, Outcome::Payload(bytes("6465")));
+    let run = played(OBJECT, 4, &[announced, "0a000000001300306b6162"]);
+    assert_eq!(run.outcome, Outcome::Refused(Error::Wire(WireError::ReadBufferTooShort)));
 }
 
 #[test]

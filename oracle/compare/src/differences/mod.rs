@@ -1,5 +1,5 @@
 //! The differences of docs/DIFFERENCES.md that can be compared. Each says what the Rust would have had to be asked, or to answer, to agree
-//! with document 01, from the input and the Rust's own answer alone. It explains two sides that part only if they are then equal in
+//! with documents 01 and 02, from the input and the Rust's own answer alone. It explains two sides that part only if they are then equal in
 //! every byte that is compared, so that what it lets through is what its row says and nothing else.
 mod lent;
 mod list;
@@ -12,6 +12,7 @@ use crate::frames::{Frame, Written};
 use crate::ran::Ran;
 use crate::sides::theirs::{self, Answered, Asked};
 use crate::transfer::Transfer;
+use std::borrow::Cow;
 
 /// Where the two sides of a transfer part.
 pub struct Parting<'a> {
@@ -24,10 +25,15 @@ impl<'a> Parting<'a> {
         &self.asked.transfer
     }
 
-    /// The reply at which the Rust ended.
+    /// The reply at which the Rust ended, as it came.
     pub fn last_reply(&self) -> Option<&'a [u8]> {
         let last = self.theirs.ran.judged.checked_sub(1)?;
         self.transfer().replies.get(last).map(Vec::as_slice)
+    }
+
+    /// The same, as the Rust was given it.
+    pub fn last_given(&self) -> Option<Cow<'a, [u8]>> {
+        self.theirs.ran.judged.checked_sub(1).map(|last| self.asked.given(last))
     }
 
     /// The Rust's run with another end.
@@ -46,6 +52,8 @@ pub enum Instead<'a> {
 #[derive(Clone, Copy)]
 pub enum Rule {
     Transfer(for<'a> fn(&Parting<'a>) -> Option<Instead<'a>>),
+    /// What the Rust is to be asked also where the two sides do not part: they could agree on the Rust's reading, which is not ours.
+    Always(for<'a> fn(&Parting<'a>) -> Option<Asked<'a>>),
     Frame(fn(&Frame, &Written) -> Option<Written>),
 }
 
@@ -67,16 +75,15 @@ pub fn explain(transfer: &Transfer, listed: &Listed, same: impl Fn(&Ran) -> bool
     let mut met = Vec::new();
     loop {
         let theirs = theirs::run(&asked);
-        if same(&theirs.ran) {
-            return Ok(met);
-        }
+        let agree = same(&theirs.ran);
         let parting = Parting { asked: &asked, theirs: &theirs };
         let explained = all().filter(|difference| listed.has(difference.id)).find_map(|difference| match difference.rule {
-            Rule::Transfer(rule) => match rule(&parting)? {
+            Rule::Always(rule) => Some((difference.id, Some(owned(rule(&parting)?)))),
+            Rule::Transfer(rule) if !agree => match rule(&parting)? {
                 Instead::Ran(ran) => same(&ran).then_some((difference.id, None)),
                 Instead::Asked(asked) => Some((difference.id, Some(owned(asked)))),
             },
-            Rule::Frame(_) => None,
+            Rule::Transfer(_) | Rule::Frame(_) => None,
         });
         match explained {
             Some((id, next)) => {
@@ -86,13 +93,14 @@ pub fn explain(transfer: &Transfer, listed: &Listed, same: impl Fn(&Ran) -> bool
                     None => return Ok(met),
                 }
             }
+            None if agree => return Ok(met),
             None => return Err(Box::new(theirs)),
         }
     }
 }
 
 fn owned<'a>(asked: Asked<'_>) -> Asked<'a> {
-    Asked { transfer: std::borrow::Cow::Owned(asked.transfer.into_owned()), ..asked }
+    Asked { transfer: Cow::Owned(asked.transfer.into_owned()), ..asked }
 }
 
 /// The same for a request's writer.

@@ -1,15 +1,25 @@
-//! Replies at which the Rust panics or refuses, and document 01 has a number.
+//! Replies at which the Rust panics or refuses, and document 01 has a number, and segments, whose data it takes from another place.
 use super::{Difference, Instead, Parting, Rule};
+use crate::fields::{length_field, service, specifier, EMERGENCY};
 use crate::ran::{End, Ran, Read};
+use crate::sides::shifted::has_data;
 use crate::sides::theirs::Asked;
 use ethercrab::error::Error;
 use ethercrab::play::Outcome;
 use ethercrab::wire::WireError;
 use std::borrow::Cow;
 
-const EMERGENCY: u8 = 1;
-
 pub const ASKED: &[Difference] = &[
+    Difference {
+        id: "D21",
+        smallest: "read 1008 00 - 4\n0a000000001300304108100002000000\n0a000000001300306b61626364656667",
+        rule: Rule::Always(place_of_segment_data),
+    },
+    Difference {
+        id: "D21",
+        smallest: "read 1008 00 - 4\n0a000000001300304108100002000000\n0a000000001300306b6162",
+        rule: Rule::Always(place_of_segment_data),
+    },
     Difference { id: "D7", smallest: "read 1018 01 - 4\n0a0000000013003002181001", rule: Rule::Transfer(specifier_0) },
     Difference {
         id: "D13",
@@ -36,18 +46,21 @@ pub const ENDS: &[Difference] = &[
     Difference { id: "D15", smallest: "list 0001 00 - 1\n0900000000130080020000000100aa", rule: Rule::Transfer(undecoded) },
 ];
 
-fn length_field(reply: &[u8]) -> usize {
-    usize::from(reply[0]) | usize::from(reply[1]) << 8
+/// Once the Rust has come to a segment with data, every segment is given to it with the data where it takes them.
+fn place_of_segment_data<'a>(parting: &Parting<'a>) -> Option<Asked<'a>> {
+    let judged = parting.transfer().replies.iter().take(parting.theirs.ran.judged);
+    let so = parting.transfer().is_read() && !parting.asked.segments_are_shifted && judged.skip(1).any(|reply| has_data(reply));
+    so.then(|| Asked { segments_are_shifted: true, ..parting.asked.clone() })
 }
 
 /// Any other specifier but 4 is judged alike: the Rust is asked again with 2.
 fn with_specifier_2<'a>(parting: &Parting<'a>, of_emergency: bool) -> Option<Instead<'a>> {
     let reply = parting.last_reply()?;
     let refused = parting.theirs.outcome == Outcome::Refused(Error::Wire(WireError::InvalidValue));
-    if !refused || parting.transfer().is_information() || reply.len() < 12 || reply[8] >> 5 != 0 {
+    if !refused || parting.transfer().is_information() || reply.len() < 9 || specifier(reply) != 0 {
         return None;
     }
-    if (reply[7] >> 4 == EMERGENCY) != of_emergency {
+    if (service(reply) == EMERGENCY) != of_emergency {
         return None;
     }
     let mut transfer = parting.transfer().clone();
@@ -70,7 +83,7 @@ fn panicked(parting: &Parting<'_>, text: &str) -> bool {
 /// The reply at which the Rust's assertion against emergencies failed.
 fn asserted<'a>(parting: &Parting<'a>) -> Option<&'a [u8]> {
     let reply = parting.last_reply()?;
-    (panicked(parting, "assertion") && !parting.transfer().is_information() && reply[7] >> 4 == EMERGENCY).then_some(reply)
+    (panicked(parting, "assertion") && !parting.transfer().is_information() && service(reply) == EMERGENCY).then_some(reply)
 }
 
 fn emergency<'a>(parting: &Parting<'a>) -> Option<Instead<'a>> {
@@ -105,7 +118,7 @@ fn chunk_not_there<'a>(parting: &Parting<'a>) -> Option<Instead<'a>> {
 
 /// 23 and 24 name the reply's object in the Rust.
 fn named_object<'a>(parting: &Parting<'a>) -> Option<Instead<'a>> {
-    let reply = parting.last_reply()?;
+    let reply = parting.last_given()?;
     match parting.theirs.ran.end {
         End::Over { number: number @ (0x23 | 0x24), code: 0, index, sub }
             if index.to_le_bytes() == reply[9..11] && sub == reply[11] =>

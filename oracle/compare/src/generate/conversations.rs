@@ -83,7 +83,7 @@ pub fn segmented(rng: &mut Rng) -> Transfer {
 }
 
 fn chunk(rng: &mut Rng) -> Vec<u8> {
-    let length = if rng.once_in(40) { 1400 + rng.below(75) } else { rng.pick(&CHUNKS) };
+    let length = if rng.once_in(40) { 1400 + rng.below(78) } else { rng.pick(&CHUNKS) };
     rng.bytes(length)
 }
 

@@ -4,8 +4,8 @@ use crate::rng::Rng;
 use crate::transfer::Transfer;
 
 /// Lengths at which a rule changes, of replies and of length fields.
-pub const EDGES: [usize; 25] =
-    [0, 1, 2, 3, 4, 7, 8, 9, 10, 11, 12, 13, 14, 15, 16, 17, 19, 20, 21, 24, 255, 256, 1476, 1486, 65535];
+pub const EDGES: [usize; 26] =
+    [0, 1, 2, 3, 4, 7, 8, 9, 10, 11, 12, 13, 14, 15, 16, 17, 19, 20, 21, 24, 255, 256, 1476, 1480, 1486, 65535];
 
 pub fn damage(rng: &mut Rng, transfer: &mut Transfer) {
     if transfer.replies.is_empty() {

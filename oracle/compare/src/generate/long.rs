@@ -7,14 +7,15 @@ use coe_desk::{LONGEST_DATA, LONGEST_REPLY};
 
 type Make = fn(&mut Rng) -> Transfer;
 
-const ALL: [Make; 18] = [
+const ALL: [Make; 19] = [
     |rng| list(rng, 131_068),
     |rng| list(rng, 131_069),
     |rng| list(rng, 131_070),
     list_without_room,
-    |rng| segmented(rng, 4096, 4096, 1474),
-    |rng| segmented(rng, 4096, 4097, 1474),
-    |rng| segmented(rng, 131_070, 131_070, 1474),
+    |rng| segmented(rng, 4096, 4096, LONGEST_CHUNK),
+    |rng| segmented(rng, 4096, 4097, LONGEST_CHUNK),
+    |rng| Transfer { budget: 2, ..segmented(rng, 4096, 4096, LONGEST_CHUNK) },
+    |rng| segmented(rng, 131_070, 131_070, LONGEST_CHUNK),
     |rng| segmented(rng, 300, 300, 7),
     |rng| segmented(rng, 300, 305, 7),
     |rng| segmented(rng, 65_536, 65_536, 1000),
@@ -33,6 +34,9 @@ pub const COUNT: u64 = ALL.len() as u64;
 pub fn case(rng: &mut Rng, place: u64) -> Case {
     Case::Transfer(ALL[place as usize](rng))
 }
+
+/// What a segment reply of the longest length holds.
+const LONGEST_CHUNK: usize = LONGEST_REPLY - 9;
 
 const OBJECT: (u16, u8) = (0x1018, 1);
 
@@ -82,7 +86,7 @@ fn normal(rng: &mut Rng, reply_len: usize) -> Transfer {
 
 /// So many replies before the last segment: 65,534 and it are the default budget.
 fn segments(before: usize) -> Transfer {
-    let segment = |last: u8| [&b"\x03\0\0\0\0\x13\0\x30"[..], &[0x60 | last, 0, 0, 0]].concat();
+    let segment = |last: u8| [&b"\x03\0\0\0\0\x13\0\x30"[..], &[0x60 | last]].concat();
     let mut transfer = asked(1);
     transfer.replies = vec![segment(0); before + 1];
     transfer.replies[0] = b"\x0a\0\0\0\0\x13\0\x30\x41\x18\x10\x01\x01\0\0\0".to_vec();

@@ -52,8 +52,8 @@ pub fn emergency(rng: &mut Rng) -> Vec<u8> {
     reply
 }
 
-/// A segment, where the published Rust and document 01 read it: its data from byte 12 on. Below seven bytes it is filled up to seven,
-/// with the unused count, or once in three it is as short as its data.
+/// A segment as ETG.1000.6 lays it out, its data from byte 9 on. Below seven bytes it is filled up to seven, with the unused count, or
+/// once in three it is as short as its data; once in four of the filled ones what is unused is not sent.
 pub fn segment(rng: &mut Rng, data: &[u8], last: bool, toggle: bool) -> Vec<u8> {
     let filled = data.len() < 7 && !rng.once_in(3);
     let unused = if filled {
@@ -65,12 +65,14 @@ pub fn segment(rng: &mut Rng, data: &[u8], last: bool, toggle: bool) -> Vec<u8> 
     };
     let specifier = if rng.once_in(3) { 0 } else { 3 };
     let byte_8 = u8::from(last) | (unused as u8) << 1 | u8::from(toggle) << 4 | specifier << 5;
-    let mut body = data.to_vec();
-    if filled {
-        body.resize(7, 0xee);
+    let named = if filled { 7 } else { data.len() };
+    let mut reply = header(rng, 3 + named, 3, 3);
+    reply.push(byte_8);
+    reply.extend_from_slice(data);
+    if filled && !rng.once_in(4) {
+        reply.resize(9 + named, 0xee);
     }
-    let object = if rng.once_in(2) { (rng.word(), rng.byte()) } else { (0, 0) };
-    sdo(rng, 3 + body.len(), byte_8, object, &body)
+    reply
 }
 
 /// A fragment of a list, of which the first has the list kind before its data.

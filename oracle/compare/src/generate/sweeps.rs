@@ -68,7 +68,7 @@ fn situation(rng: &mut Rng, number: u64) -> Transfer {
     transfer
 }
 
-/// A reply about 0x1018:01 whose complete size is small.
+/// A reply about 0x1018:01 whose complete size is small. In a segment these seven bytes are data.
 fn reply(rng: &mut Rng, length: u64) -> Vec<u8> {
     let mut reply = b"\x0a\0\0\0\0\x13\0\x30\0\x18\x10\x01".to_vec();
     reply.extend_from_slice(&[rng.pick(&[0, 1, 2, 4, 8, 9]), 0, 0, 0]);

@@ -57,7 +57,11 @@ pub fn edges(rng: &mut Rng) -> Case {
         _ => {}
     }
     for at in 0..1 + rng.below(4) {
-        let reply = if transfer.is_information() { information_at_edges(rng, at == 0) } else { sdo_at_edges(rng, &transfer) };
+        let reply = match transfer.is_information() {
+            true => information_at_edges(rng, at == 0),
+            false if transfer.is_read() && at > 0 => segment_at_edges(rng),
+            false => sdo_at_edges(rng, &transfer),
+        };
         transfer.replies.push(reply);
     }
     Case::Transfer(transfer)
@@ -83,13 +87,20 @@ fn sdo_at_edges(rng: &mut Rng, transfer: &Transfer) -> Vec<u8> {
     let data = length.saturating_sub(10);
     let around = rng.pick(&[data, transfer.room, 0]);
     let complete_size = if rng.once_in(12) { rng.next() as u32 } else { round(rng, around) as u32 };
-    let mut reply = replies::sdo(rng, length, byte_8, object, &complete_size.to_le_bytes());
-    let wanted = reply_length(rng, 16 + data);
-    let more = rng.bytes(wanted.saturating_sub(reply.len()));
-    reply.extend_from_slice(&more);
-    reply.truncate(wanted);
-    unlist(rng, &mut reply);
-    reply
+    let reply = replies::sdo(rng, length, byte_8, object, &complete_size.to_le_bytes());
+    as_long_as_named(rng, reply, 16 + data)
+}
+
+/// Its chunk, of seven bytes what is used of them, is there, or a byte or two of it are not.
+fn segment_at_edges(rng: &mut Rng) -> Vec<u8> {
+    let length = if rng.once_in(4) { rng.pick(&EDGES) } else { rng.pick(&[2, 3, 4, 5, 9, 10, 10, 10, 11, 12, 17]) };
+    let unused = rng.below(8);
+    let specifier = if rng.once_in(8) { rng.below(8) as u8 } else { rng.pick(&[0, 3]) };
+    let byte_8 = rng.byte() & 0x11 | (unused as u8) << 1 | specifier << 5;
+    let chunk = if length == 10 { 7 - unused } else { length.saturating_sub(3) };
+    let mut reply = replies::header(rng, length, 3, 3);
+    reply.push(byte_8);
+    as_long_as_named(rng, reply, 9 + chunk)
 }
 
 fn information_at_edges(rng: &mut Rng, first: bool) -> Vec<u8> {
@@ -98,6 +109,11 @@ fn information_at_edges(rng: &mut Rng, first: bool) -> Vec<u8> {
     let operation = if rng.once_in(6) { rng.below(10) as u8 } else { 2 };
     let mut reply = replies::header(rng, length, 3, 8);
     reply.extend_from_slice(&[operation | rng.byte() & 0x80, 0, 0, 0]);
+    as_long_as_named(rng, reply, named)
+}
+
+/// The reply with about as many bytes as it names.
+fn as_long_as_named(rng: &mut Rng, mut reply: Vec<u8>, named: usize) -> Vec<u8> {
     let wanted = reply_length(rng, named);
     let more = rng.bytes(wanted.saturating_sub(reply.len()));
     reply.extend_from_slice(&more);

@@ -2,4 +2,5 @@
 pub mod guarded;
 pub mod judge;
 pub mod ours;
+pub mod shifted;
 pub mod theirs;

@@ -1,4 +1,5 @@
 //! The Rust's side: the published code, and its outcome in document 01's terms.
+use super::shifted::shifted;
 use crate::ran::{End, Ran, Read};
 use crate::transfer::{size_of, Kind, Transfer, FILL};
 use ethercrab::error::{Error, MailboxError, PduError};
@@ -10,7 +11,7 @@ use std::borrow::Cow;
 /// The published capacity of the information loop's buffer.
 pub const PUBLISHED_CAPACITY: usize = 131_070;
 
-/// What the Rust is asked: the transfer, and how far its own sizes give way to the lent N.
+/// What the Rust is asked: the transfer, and how far its own sizes give way to the lent N, and its place of segment data to ours.
 #[derive(Debug, Clone)]
 pub struct Asked<'a> {
     pub transfer: Cow<'a, Transfer>,
@@ -18,11 +19,22 @@ pub struct Asked<'a> {
     pub capacity_is_lent: bool,
     /// A number is read into a buffer of N bytes, and not of its own size.
     pub number_is_lent: bool,
+    /// Segment replies are given with their data where the Rust takes them.
+    pub segments_are_shifted: bool,
 }
 
 impl<'a> Asked<'a> {
     pub fn plainly(transfer: &'a Transfer) -> Asked<'a> {
-        Asked { transfer: Cow::Borrowed(transfer), capacity_is_lent: false, number_is_lent: false }
+        Asked { transfer: Cow::Borrowed(transfer), capacity_is_lent: false, number_is_lent: false, segments_are_shifted: false }
+    }
+
+    /// A reply, counted from 0, as the Rust is given it.
+    pub fn given(&self, number: usize) -> Cow<'_, [u8]> {
+        let reply = &self.transfer.replies[number];
+        match self.segments_are_shifted && number > 0 {
+            true => Cow::Owned(shifted(reply)),
+            false => Cow::Borrowed(reply),
+        }
     }
 }
 
@@ -41,10 +53,11 @@ pub fn run(asked: &Asked<'_>) -> Answered {
 /// Runs it with the first replies alone.
 pub fn run_to(asked: &Asked<'_>, replies: usize) -> Answered {
     let transfer = &*asked.transfer;
+    let given: Vec<Vec<u8>> = (0..replies).map(|number| asked.given(number).into_owned()).collect();
     let played = |call: Call<'_>| {
         let capacity = if asked.capacity_is_lent { transfer.room } else { PUBLISHED_CAPACITY };
         let lent = Lent { counter: transfer.counter, buffer: transfer.room, fill: FILL, capacity };
-        play(call, lent, &transfer.replies[..replies])
+        play(call, lent, &given)
     };
     let access = transfer.sub.map_or(SubIndex::Complete, SubIndex::Index);
     let index = transfer.index;
