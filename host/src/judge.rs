@@ -18,7 +18,8 @@ pub enum Expected {
         /// Which part of it.
         sub_index: SubIndex,
     },
-    /// The request for an upload's next segment.
+    /// The request for an upload's next segment. The reply's data begin at byte 9, by ETG.1000.6; ethercrab takes them from
+    /// byte 12.
     Segment {
         /// The sum of the chunks before this one.
         earlier: u32,

@@ -38,7 +38,8 @@ pub enum Refusal {
     BadOrder,
     /// 16: a frame buffer not of 16 to 1,486 bytes, a reply above 1,486, or a data buffer above 131,070.
     BufferLength,
-    /// 20: too few bytes, or an unlisted type, service, command or operation. Reads of a payload refuse with it too.
+    /// 20: too few bytes (a segment reply has at least 9, any other 12), or an unlisted type, service, command or operation.
+    /// Reads of a payload refuse with it too.
     Undecodable,
     /// 21: the drive sent an emergency message.
     Emergency {
