@@ -37,9 +37,6 @@ use Rattle.mailbox.specs.declared.numbers.ListedOpCode.{ListedOpCode}
 use Rattle.mailbox.specs.declared.numbers.ListedOpCode.the-variants as ListedOpCode
 use Rattle.judge.specs.Answers.{answerOf, oneOf}
 use Rattle.judge.specs.Headers.{onMailbox, onCoe, onSdo, onSegmented, onInfo, readHeaders, readSegmentHeaders, readInformationHeaders}
-use Rattle.judge.specs.Reply.{onHeaders}
-use Rattle.judge.specs.Segment.{onSegmentHeaders}
-use Rattle.judge.specs.Information.{onInformationHeaders}
 use Rattle.judge.specs.declared.Verdict.{Verdict}
 use Rattle.judge.specs.declared.Verdict.the-variants.{Refused}
 use Rattle.judge.specs.declared.headers.HeadersRead.{HeadersRead}
@@ -88,7 +85,8 @@ informationIn m c r =
     onInfo r InformationHeadersRead.Undecodable λ i. InformationHeadersRead.Headers (record { mailbox = m; service = c .service; information = i })
 
 module _ {H : Type 0} (none : H) where
-  nothing-made : (a : MailboxHeaderRead) (b : CoeHeaderRead) (make : MailboxHeader → CoeHeader → H) → ((m : MailboxHeader) (c : CoeHeader) → make m c ≡ none)
+  nothing-made : (a : MailboxHeaderRead) (b : CoeHeaderRead) (make : MailboxHeader → CoeHeader → H)
+      → ((m : MailboxHeader) (c : CoeHeader) → make m c ≡ none)
       → onMailbox a none (λ m. onCoe b none (make m)) ≡ none
   nothing-made MailboxHeaderRead.Undecodable b make e = refl
   nothing-made (MailboxHeaderRead.Header m) CoeHeaderRead.Undecodable make e = refl
@@ -122,7 +120,8 @@ module _ (s : List ℕ) where
       (λ n. rw (n, longer least 6 (omega (arith, h)) n, longer least 8 (omega (arith, h)) n))
 
   pub sdo-read : readHeaders s
-      ≡ pick (under 12 s) HeadersRead.Undecodable (inReply HeadersRead.Undecodable λ m c. sdoIn m c (sdoHeaderOf s (names.commandOf (the specifier s))))
+      ≡ pick (under 12 s) HeadersRead.Undecodable
+      (inReply HeadersRead.Undecodable λ m c. sdoIn m c (sdoHeaderOf s (names.commandOf (the specifier s))))
   unfolding readHeaders readSdoHeader
   sdo-read = read-in-turn 12 (omega arith) HeadersRead.Undecodable sdoIn SdoHeaderRead.Undecodable _ (λ m c. refl)
 
