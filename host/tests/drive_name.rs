@@ -1,16 +1,15 @@
 //! A drive's name that comes in segments, as ETG.1000.6 lays them out, arrives without a hole.
-use coe_desk::{Answer, Desk, Order, Payload, Refusal, Seat, SharedDesk};
+use coe_desk::{Answer, Desk, Order, Payload, Refusal, Seat, SharedDesk, SubIndex};
 use common::drive::Drive;
 use std::time::Duration;
 
 mod common;
 
 const NAME: &str = "AX5112 servo drive";
-const ORDER: Order<'static> = Order::Upload { index: 0x1008, sub_index: coe_desk::SubIndex::Index(0) };
+const ORDER: Order<'static> = Order::Upload { index: 0x1008, sub_index: SubIndex::Index(0) };
 
-/// A drive with the smallest mailbox.
-fn drive() -> Drive {
-    Drive::new(16).with(0x1008, 0, NAME.as_bytes())
+fn drive(mailbox_size: usize) -> Drive {
+    Drive::new(mailbox_size).with(0x1008, 0, NAME.as_bytes())
 }
 
 /// The payload's length, and the replies that brought it.
@@ -32,7 +31,7 @@ fn fetched(desk: &mut Desk, drive: &mut Drive, data: &mut [u8]) -> Result<(usize
 #[test]
 fn by_the_desks_calls() {
     let mut data = [0xa5; 24];
-    let (length, replies) = fetched(&mut Desk::new(), &mut drive(), &mut data).unwrap();
+    let (length, replies) = fetched(&mut Desk::new(), &mut drive(16), &mut data).unwrap();
     assert_eq!(
         replies,
         [
@@ -47,8 +46,10 @@ fn by_the_desks_calls() {
 }
 
 #[test]
-fn by_a_shared_desks_transfer() {
+fn in_segments_of_every_length() {
     let (desk, mut data) = (SharedDesk::new(Duration::from_millis(1)), [0; 64]);
-    let payload = desk.transfer(ORDER, &mut data, &mut drive().shared()).unwrap();
-    assert_eq!(std::str::from_utf8(payload.bytes()), Ok(NAME));
+    for mailbox_size in 16..16 + NAME.len() {
+        let payload = desk.transfer(ORDER, &mut data, &mut drive(mailbox_size).shared()).unwrap();
+        assert_eq!(std::str::from_utf8(payload.bytes()), Ok(NAME), "a mailbox of {mailbox_size} bytes");
+    }
 }

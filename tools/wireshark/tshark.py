@@ -1,5 +1,5 @@
-"""Frames in a capture, and what tshark reads in it. A reader, ethercat or canopen, has the way of a frame to its wire, and the fields
-that are read there."""
+"""Frames in a capture, and what tshark reads in it. A reader, ethercat or canopen, says how a frame is put on its wire, and which
+fields are read there."""
 import os
 import re
 import struct

@@ -1,6 +1,6 @@
--- The (P) examples of document 01 that speak of replies, and one for each number and rule, as one list: what is judged, and what is
--- to come out, the answer and the whole data buffer. One statement says of all of them that the two are the same; antt computes it.
--- Assumes nothing.
+-- The (P) examples of document 01 that speak of replies, those of request [1] of document 02, and one for each number and rule, as one
+-- list: what is judged, and what is to come out, the answer and the whole data buffer. One statement says of all of them that the two are
+-- the same; antt computes it. Assumes nothing.
 use mathlib.Core.Path.{_≡_, refl}
 use mathlib.Core.Bool.{true}
 use mathlib.Core.List.{List, [], _∷_, map}

@@ -34,7 +34,7 @@ normalLeast = behind completeSize
 abbrev pub normalAt : ℕ
 normalAt = behind completeSize
 
--- document 02, [1]: "let a segment reply of 9 to 11 bytes be judged too: 20 now starts below 9 bytes there"
+-- document 02, [1]: "let a segment reply of 9 to 11 bytes be judged too: 20 now starts below 9 bytes there". Its own header needs no more
 abbrev pub segmentLeast : ℕ
 segmentLeast = 9
 

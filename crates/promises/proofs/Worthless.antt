@@ -18,7 +18,7 @@ use Rattle.desk.proofs.Kept.{good-fresh}
 use Rattle.promises.specs.Standing.{Called}
 use Rattle.promises.specs.Table.{toldBy, ConditionTable, RequestAndStorage}
 use Rattle.promises.specs.Worthless.{NoRefuser, NoConstant, NoIdler, NoPretender, RefusesAll, Constant, WritesNothing, StoresNothing, Keeps, refuser, constant, idler}
-use Rattle.promises.specs.Runs.{upload, blank, segmentsFollow, three, entered}
+use Rattle.promises.specs.Runs.{upload, blank, segmentsFollow, two, entered}
 use Rattle.promises.proofs.Whole.{each-follows}
 use Rattle.promises.proofs.Table.{condition-table, request-and-storage}
 use Rattle.promises.proofs.Demand3.{demand3, singles-follow, served-truly}
@@ -45,7 +45,7 @@ writes = ap (λ (l : List (List Told)). told 1 1 l .1) runs-hold
 abbrev begun : List Called
 begun = enter 0 (upload 3) ∷ send 0 (blank 16) ∷ receive 0 (segmentsFollow, blank 8) ∷ send 0 (blank 16) ∷ []
 
-stores : toldBy deskStand (passAt 6) begun (receive 0 (three, blank 8)) .1 ≡ hex 8 0xa1a2a3eeeeeeeeee
+stores : toldBy deskStand (passAt 6) begun (receive 0 (two, blank 8)) .1 ≡ hex 8 0xa1a2eeeeeeeeeeee
 unfolding trace after told
 stores = ap (λ (l : List (List Told)). told 2 4 l .1) runs-hold
 
@@ -84,7 +84,7 @@ module _ (S : Stand coeMachine Told) where
 
     no-idle-storer : StoresNothing S → ⊥
     no-idle-storer W =
-        let same = sym (W (passAt 6) begun 0 (three, blank 8)) ∙ same-buffer (passAt 6) refl begun (receive 0 (three, blank 8)) ∙ stores in
+        let same = sym (W (passAt 6) begun 0 (two, blank 8)) ∙ same-buffer (passAt 6) refl begun (receive 0 (two, blank 8)) ∙ stores in
         let z : _≡_ {A = ℕ} 0xee 0xa1 = ap (λ (b : List ℕ). getD b 0 0) same in
         omega arith
 

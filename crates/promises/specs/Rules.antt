@@ -1,6 +1,6 @@
--- Document 01, "Judging a reply", a second time: its rules as lists of conditions on the reply's bytes, each with what is told
--- where it holds. The statements say that the judge tells what the first of them that holds tells. s is the reply, n is this
--- call's N, earlier the sum of the earlier chunks. Assumes nothing.
+-- Document 01, "Judging a reply", as request [1] of document 02 changes it, a second time: its rules as lists of conditions on the
+-- reply's bytes, each with what is told where it holds. The statements say that the judge tells what the first of them that holds tells.
+-- s is the reply, n is this call's N, earlier the sum of the earlier chunks. Assumes nothing.
 use mathlib.Core.Path.{_≡_}
 use mathlib.Core.Bool.{Bool, true, false, not}
 use mathlib.Core.List.{List, [], _∷_, _++_}

@@ -53,9 +53,9 @@ expedited = hex 16 0x0a000000001300304318100178563412
 abbrev pub segmentsFollow : List ℕ
 segmentsFollow = hex 16 0x0a000000001300304118100108000000
 
--- segments of 3 bytes, more to come; and of 4 bytes, the last
-abbrev pub three : List ℕ
-three = hex 12 0x060000000013003000a1a2a3
+-- segments of 2 bytes in a reply of 11, more to come; and of 4 bytes, the last
+abbrev pub two : List ℕ
+two = hex 11 0x050000000013003000a1a2
 
 abbrev pub lastFour : List ℕ
 lastFour = hex 13 0x070000000013003011b1b2b3b4
@@ -108,7 +108,7 @@ runs =
     -- "Budget 2, first segment not last: 27.", and its chunk is not stored
     ∷ (
       toldFrom 1
-          (enter 0 (upload 2) ∷ send 0 (blank 16) ∷ receive 0 (segmentsFollow, blank 8) ∷ send 0 (blank 16) ∷ receive 0 (three, blank 8) ∷ []),
+          (enter 0 (upload 2) ∷ send 0 (blank 16) ∷ receive 0 (segmentsFollow, blank 8) ∷ send 0 (blank 16) ∷ receive 0 (two, blank 8) ∷ []),
       entered
           ∷ sent (hex 16 0x0a000000001300204018100100000000)
           ∷ (number 0x01, blank 8)
@@ -119,15 +119,15 @@ runs =
     -- two segments: toggle 0, then 1; each chunk behind the one before; P is their sum
     ∷ (
       toldFrom 6
-          (enter 0 (upload 3) ∷ send 0 (blank 16) ∷ receive 0 (segmentsFollow, blank 8) ∷ send 0 (blank 16) ∷ receive 0 (three, blank 8)
-          ∷ send 0 (blank 16) ∷ receive 0 (lastFour, hex 8 0xa1a2a3eeeeeeeeee) ∷ []),
+          (enter 0 (upload 3) ∷ send 0 (blank 16) ∷ receive 0 (segmentsFollow, blank 8) ∷ send 0 (blank 16) ∷ receive 0 (two, blank 8)
+          ∷ send 0 (blank 16) ∷ receive 0 (lastFour, hex 8 0xa1a2eeeeeeeeeeee) ∷ []),
       entered
           ∷ sent (hex 16 0x0a000000006300204018100100000000)
           ∷ (number 0x01, blank 8)
           ∷ sent (hex 16 0x0a000000007300206000000000000000)
-          ∷ (number 0x01, hex 8 0xa1a2a3eeeeeeeeee)
+          ∷ (number 0x01, hex 8 0xa1a2eeeeeeeeeeee)
           ∷ sent (hex 16 0x0a000000001300207000000000000000)
-          ∷ (doneOf 7, hex 8 0xa1a2a3b1b2b3b4ee)
+          ∷ (doneOf 6, hex 8 0xa1a2b1b2b3b4eeee)
           ∷ [],
     )
     -- a list of two fragments: one request, two replies

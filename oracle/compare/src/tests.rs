@@ -35,6 +35,12 @@ fn segment_data_at_the_rusts_own_place_are_not_taken_for_ours() {
 }
 
 #[test]
+fn a_segment_that_both_read_alike_meets_no_difference() {
+    let empty = "read 1008 00 - 2\n0a000000001300304108100002000000\n030000000013003061000000";
+    assert!(Case::parse(empty).unwrap().compare(&setting(&list())).unwrap().is_empty());
+}
+
+#[test]
 fn a_row_twice_or_of_an_unknown_difference_is_seen() {
     assert!(Listed::parse("| D1 | x |\n| D1 | y |").is_err());
     assert_eq!(Listed::parse("| D1 | x |\n| N1 | y |\n| D999 | z |").unwrap().unknown(), ["D999"]);

@@ -14,7 +14,7 @@ use crate::sides::theirs::{self, Answered, Asked};
 use crate::transfer::Transfer;
 use std::borrow::Cow;
 
-/// Where the two sides of a transfer part.
+/// What the Rust was asked, and what it answered.
 pub struct Parting<'a> {
     pub asked: &'a Asked<'a>,
     pub theirs: &'a Answered,
@@ -69,7 +69,7 @@ pub fn all() -> impl Iterator<Item = &'static Difference> {
     requests::ALL.iter().chain(lent::ASKED).chain(replies::ASKED).chain(lent::ENDS).chain(replies::ENDS)
 }
 
-/// What explained two sides that part, by id, or the answer of the Rust that nothing explains.
+/// What explains where the two sides part, by id, or the answer of the Rust that nothing explains.
 pub fn explain(transfer: &Transfer, listed: &Listed, same: impl Fn(&Ran) -> bool) -> Result<Vec<&'static str>, Box<Answered>> {
     let mut asked = Asked::plainly(transfer);
     let mut met = Vec::new();
@@ -87,7 +87,9 @@ pub fn explain(transfer: &Transfer, listed: &Listed, same: impl Fn(&Ran) -> bool
         });
         match explained {
             Some((id, next)) => {
-                met.push(id);
+                if !agree {
+                    met.push(id);
+                }
                 match next {
                     Some(next) => asked = next,
                     None => return Ok(met),

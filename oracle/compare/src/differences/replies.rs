@@ -37,7 +37,7 @@ pub const ENDS: &[Difference] = &[
     Difference { id: "D9", smallest: "read 1018 01 - 4\n0a0000000013001060181001", rule: Rule::Transfer(short_emergency) },
     Difference {
         id: "D10",
-        smallest: "read 1018 01 - 9\n0a000000001300304118100109000000\n020000000013003061000000",
+        smallest: "read 1018 01 - 9\n0a000000001300304118100109000000\n020000000013003061",
         rule: Rule::Transfer(segment_length),
     },
     Difference { id: "D11", smallest: "list 0001 00 - 0\n070000000013008002000000", rule: Rule::Transfer(information_length) },

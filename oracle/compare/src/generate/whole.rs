@@ -91,7 +91,7 @@ fn sdo_at_edges(rng: &mut Rng, transfer: &Transfer) -> Vec<u8> {
     as_long_as_named(rng, reply, 16 + data)
 }
 
-/// Its chunk, of seven bytes what is used of them, is there, or a byte or two of it are not.
+/// A segment whose chunk (of seven bytes the used ones) is there, or lacks a byte or two.
 fn segment_at_edges(rng: &mut Rng) -> Vec<u8> {
     let length = if rng.once_in(4) { rng.pick(&EDGES) } else { rng.pick(&[2, 3, 4, 5, 9, 10, 10, 10, 11, 12, 17]) };
     let unused = rng.below(8);

@@ -4,8 +4,8 @@ use crate::fields::{service, specifier, ABORT, EMERGENCY};
 
 const DATA: usize = 9;
 
-/// The Rust takes them for an index and a sub-index, which it does not look at in a segment. Were one read as data it would show:
-/// they are no lent buffer's bytes.
+/// The Rust takes them for an index and a sub-index: in a segment it compares them with nothing, and names them beside 23 (D14). A lent
+/// buffer is filled with another byte, so that one of them read as data would show.
 const PUT_IN: [u8; 3] = [0xd2, 0x1c, 0xe9];
 
 /// Whether data have a place in it. Document 01 gives an abort and an emergency one layout, whatever they answer.
