@@ -53,15 +53,15 @@ fn expect_listed(listed: bool) -> Result<(), Answer> {
     }
 }
 
-/// At least so many bytes, and a type and service that are listed.
-fn expect_header(reply: &[u8], least: usize) -> Result<(), Answer> {
-    expect_len(reply, least)?;
+/// At least so many bytes, and a type and service that are listed. The compiler knows the number, and tests no place behind it again.
+fn expect_header<const LEAST: usize>(reply: &[u8]) -> Result<(), Answer> {
+    expect_len(reply, LEAST)?;
     expect_listed(matches!(reply[5] & 0x0f, 0..=5 | 15) && matches!(reply[7] >> 4, 1..=8))
 }
 
 /// The rules that every SDO reply is judged by: an emergency or an abort comes before the type.
-fn expect_sdo(reply: &[u8], least: usize) -> Result<(), Answer> {
-    expect_header(reply, least)?;
+fn expect_sdo<const LEAST: usize>(reply: &[u8]) -> Result<(), Answer> {
+    expect_header::<LEAST>(reply)?;
     let specifier = reply[8] >> 5;
     expect_listed(specifier <= 4)?;
     if reply[7] >> 4 == 1 {
@@ -79,7 +79,7 @@ fn expect_sdo(reply: &[u8], least: usize) -> Result<(), Answer> {
 }
 
 fn expect_object(reply: &[u8], index: u16, sub: u8) -> Result<(), Answer> {
-    expect_sdo(reply, LEAST)?;
+    expect_sdo::<LEAST>(reply)?;
     if word(reply, 9) != index || reply[11] != sub {
         return Err(numbered(0x23));
     }
@@ -138,8 +138,8 @@ pub fn verdict(expected: Expected, reply: &[u8], room: usize) -> Result<Verdict,
             expect_len(reply, 16)?;
             Ok(Verdict { next: Next::Done, chunk: Chunk::none(0) })
         }
-        Expected::Segment { earlier } => expect_sdo(reply, SEGMENT_LEAST).and_then(|()| segment(reply, earlier, room)),
-        Expected::List { begun, earlier } => expect_header(reply, LEAST).and_then(|()| list(reply, begun, earlier, room)),
+        Expected::Segment { earlier } => expect_sdo::<SEGMENT_LEAST>(reply).and_then(|()| segment(reply, earlier, room)),
+        Expected::List { begun, earlier } => expect_header::<LEAST>(reply).and_then(|()| list(reply, begun, earlier, room)),
     }
 }
 
