@@ -17,14 +17,17 @@
 extern "C" {
 #endif
 
-/* An answer: `number`, and the values that go with it. 0x00: `length` is the payload's length. 0x21, emergency: `code`, and the
- * register in `sub`. 0x22, aborted: `code`, `index`, `sub`. What a number does not name is 0. */
+/* An answer: `number`, and the values that go with it. 0x00: `length` is the payload's length. 0x21, emergency: `code`, the error
+ * register in `sub`, and the drive's five bytes in `data`, the first lowest: in memory they are its first five bytes. 0x22, aborted:
+ * `code`, `index`, `sub`. What a number does not name is 0. An answer has 24 bytes. */
 typedef struct {
     uint8_t number;
     uint8_t sub;
     uint16_t index;
     uint32_t code;
     uint32_t length;
+    /* Bytes 12 to 15 are padding: nothing is in them yet, and a later version uses them. */
+    uint64_t data;
 } coe_answer;
 
 /* ---- Request writers. 0x02: the frame stands at the front of `frame`, and zeros fill the rest. 0x15: a counter not 1 to 7, a flag
@@ -47,7 +50,9 @@ uint8_t coe_list_frame(uint8_t counter, uint16_t kind, uint8_t *frame, size_t fr
  * `data`. `kind`: 1 upload, 3 download, 7 segment, 4 list not begun, 8 list begun; 0x15 for another. `earlier`: the sum of the chunks
  * before this one, where it is stored (kinds 1 and 3 have none, and take no notice of it). 0x16: `reply_len` above 1486 or `data_len`
  * above 131070, after 0x15. A segment reply's data begin at byte 9. 0x20: undecodable, as below 9 bytes for a segment and below 12 for
- * the others. On 0x01 and 0x02 `length` is this reply's chunk, and `sub` is 1 once a list has begun. */
+ * the others. 0x21: an emergency (service 1) in an upload's, a download's or a segment's place. Its code stands in bytes 8 and 9, the error
+ * register in 10, five bytes of data in 11 to 15, and one without all of these 16 bytes is 0x20. On 0x01 and 0x02 `length` is this
+ * reply's chunk, and `sub` is 1 once a list has begun. */
 coe_answer coe_judge(uint8_t kind, uint16_t index, uint8_t sub, uint32_t earlier, const uint8_t *reply, size_t reply_len,
                      uint8_t *data, size_t data_len);
 

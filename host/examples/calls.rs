@@ -9,9 +9,8 @@
 //! ```
 //!
 //! An answer is the specification's number and what goes with it: the frame, in a mailbox of 128 bytes; the chunk, of a reply with
-//! none before it; of 21 code and register; of 22 code, index and sub-index.
+//! none before it; of 21 code, register and the five bytes; of 22 code, index and sub-index.
 use coe_desk::{frames, judge, Expected, Judged, ListKind, Refusal, SubIndex};
-use std::fmt::Write;
 use std::io::{self, BufRead};
 use std::str::SplitWhitespace;
 
@@ -100,15 +99,17 @@ fn judged(mut words: Words) -> Option<String> {
 }
 
 fn with_bytes(number: u8, bytes: &[u8]) -> String {
-    let mut text = format!("{number:02x} ");
-    bytes.iter().for_each(|byte| write!(text, "{byte:02x}").expect("a string takes all"));
-    text
+    format!("{number:02x} {}", digits(bytes))
+}
+
+fn digits(bytes: &[u8]) -> String {
+    bytes.iter().map(|byte| format!("{byte:02x}")).collect()
 }
 
 fn refused(refusal: Refusal) -> String {
     let number = refusal.number();
     match refusal {
-        Refusal::Emergency { code, register } => format!("{number:02x} {code:x} {register:x}"),
+        Refusal::Emergency { code, register, data } => format!("{number:02x} {code:x} {register:x} {}", digits(&data)),
         Refusal::Aborted { code, index, sub_index } => format!("{number:02x} {:x} {index:x} {sub_index:x}", u32::from(code)),
         _ => format!("{number:02x}"),
     }

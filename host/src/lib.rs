@@ -10,6 +10,7 @@ extern crate std;
 mod abort;
 mod answer;
 mod desk;
+mod emergency;
 #[allow(unsafe_code)]
 mod ffi;
 pub mod frames;
@@ -29,6 +30,7 @@ mod transfer_error;
 pub use abort::AbortCode;
 pub use answer::Answer;
 pub use desk::Desk;
+pub use emergency::emergency_class;
 pub use judge::{judge, Expected, Judged};
 pub use order::{ListKind, Order, SubIndex};
 pub use payload::Payload;

@@ -1,3 +1,4 @@
+use crate::emergency;
 use crate::ffi;
 use crate::AbortCode;
 use core::fmt;
@@ -20,6 +21,12 @@ use core::fmt;
 ///     aborted.to_string(),
 ///     "the drive aborted the transfer of 0x1018:04: 0x06020000: The object does not exist in the object directory"
 /// );
+///
+/// let too_hot = Refusal::Emergency { code: 0x4210, register: 0x08, data: [1, 2, 3, 4, 5] };
+/// assert_eq!(
+///     too_hot.to_string(),
+///     "the drive sent emergency 0x4210 (device temperature), register 0x08, data 01 02 03 04 05"
+/// );
 /// ```
 #[derive(Debug, Clone, Copy, PartialEq, Eq)]
 #[non_exhaustive]
@@ -38,15 +45,18 @@ pub enum Refusal {
     BadOrder,
     /// 16: a frame buffer not of 16 to 1,486 bytes, a reply above 1,486, or a data buffer above 131,070.
     BufferLength,
-    /// 20: too few bytes (a segment reply has at least 9, any other 12), or an unlisted type, service, command or operation.
-    /// Reads of a payload refuse with it too.
+    /// 20: too few bytes (a segment reply has at least 9, any other 12, an emergency or an abort 16), or an unlisted type, service,
+    /// command or operation. Reads of a payload refuse with it too.
     Undecodable,
-    /// 21: the drive sent an emergency message.
+    /// 21: the drive sent an emergency message in place of the reply to an upload, a download or a segment's request. It is read as
+    /// ETG.1000.6 lays it out; ethercrab panics there, and would take the code from byte 12.
     Emergency {
-        /// The error code.
+        /// The error code, bytes 8 and 9: [`emergency_class`](crate::emergency_class) names what it is about.
         code: u16,
-        /// The error register.
+        /// The error register, byte 10: the bits of the drive's object 0x1001.
         register: u8,
+        /// Bytes 11 to 15, as they came. What they say is the drive's own.
+        data: [u8; 5],
     },
     /// 22: the drive aborted the transfer.
     Aborted {
@@ -78,7 +88,7 @@ impl Refusal {
     pub(crate) fn of_answer(answer: ffi::Answer) -> Refusal {
         match answer.number {
             // The drive's code has sixteen bits; the answer's field is as wide as an abort needs.
-            0x21 => Refusal::Emergency { code: answer.code as u16, register: answer.sub },
+            0x21 => Refusal::Emergency { code: answer.code as u16, register: answer.sub, data: five_bytes(answer.data) },
             0x22 => Refusal::Aborted { code: AbortCode::from(answer.code), index: answer.index, sub_index: answer.sub },
             number => Refusal::of_number(number),
         }
@@ -131,6 +141,12 @@ impl Refusal {
     }
 }
 
+/// An answer's `data` holds five bytes, the first lowest.
+fn five_bytes(data: u64) -> [u8; 5] {
+    let [first, second, third, fourth, fifth, ..] = data.to_le_bytes();
+    [first, second, third, fourth, fifth]
+}
+
 impl fmt::Display for Refusal {
     fn fmt(&self, f: &mut fmt::Formatter<'_>) -> fmt::Result {
         f.write_str(match self {
@@ -144,9 +160,7 @@ impl fmt::Display for Refusal {
                 "a buffer's length: a frame buffer has 16 to 1486 bytes, a reply at most 1486, a data buffer at most 131070"
             }
             Refusal::Undecodable => "undecodable: too few bytes, or a number in them that is not listed",
-            Refusal::Emergency { code, register } => {
-                return write!(f, "the drive sent emergency {code:#06x}, register {register:#04x}")
-            }
+            Refusal::Emergency { code, register, data } => return emergency::show(f, *code, *register, *data),
             Refusal::Aborted { code, index, sub_index } => {
                 return write!(f, "the drive aborted the transfer of {index:#06x}:{sub_index:02x}: {code}")
             }

@@ -1,4 +1,4 @@
-//! The specification's examples.
+//! The specification's examples, and those of its requests.
 use coe_desk::{frames, judge, reads, Answer, Desk, Expected, Judged, ListKind, Order, Refusal, Seat, SubIndex};
 
 const SEAT: Seat = Seat::ALL[0];
@@ -99,6 +99,17 @@ fn segment_replies_of_9_to_11_bytes() {
     assert_eq!(data, [0xa5; 4]);
     assert_eq!(judge(SEGMENT, &bytes("0a000000001300300b6162"), &mut data), Ok(Judged::Done { length: 2 }));
     assert_eq!(data, *b"ab\xa5\xa5");
+}
+
+#[test]
+fn overtemperature() {
+    let (reply, mut data) = (bytes("0a000000001300101042080102030405"), [0xa5; 4]);
+    let emergency = Refusal::Emergency { code: 0x4210, register: 8, data: [1, 2, 3, 4, 5] };
+    for expected in [UPLOAD, DOWNLOAD, SEGMENT] {
+        assert_eq!(judge(expected, &reply, &mut data), Err(emergency), "{expected:?}");
+        assert_eq!(judge(expected, &reply[..15], &mut data), Err(Refusal::Undecodable), "{expected:?}");
+    }
+    assert_eq!(data, [0xa5; 4]);
 }
 
 #[test]

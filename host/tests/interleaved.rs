@@ -1,6 +1,6 @@
 //! Random calls of eight seats at one desk give each transfer what it gets alone, one after another, in order of entry.
 use coe_desk::{Answer, Desk, ListKind, Order, Refusal, Seat, SubIndex};
-use common::drive::Drive;
+use common::drive::{emergency, Drive};
 
 mod common;
 
@@ -125,13 +125,14 @@ impl Trial {
     }
 }
 
-/// The drive's reply, now and then with a byte changed or cut off.
+/// The drive's reply, now and then with a byte changed or cut off, or an emergency in its place.
 fn reply(drive: &mut Drive, random: &mut Random) -> Vec<u8> {
     let mut reply = drive.reply().unwrap_or_else(|| vec![0; 12]);
     let at = random.below(reply.len());
     match random.below(24) {
         0 => reply[at] = random.below(256) as u8,
         1 => reply.truncate(at),
+        2 => reply = emergency(random.below(0x1_0000) as u16, 8, [0; 5].map(|_: u8| random.below(256) as u8)),
         _ => {}
     }
     reply
@@ -191,7 +192,7 @@ fn eight_seats_against_single_runs() {
     let mut desk = Desk::new();
     trial.transfers.iter().for_each(|transfer| alone(&mut desk, transfer));
     assert!(trial.transfers.len() > 1000 && trial.done > 250, "{} entered, {} done", trial.transfers.len(), trial.done);
-    for number in [0x11, 0x12, 0x13, 0x14, 0x20, 0x22, 0x27] {
+    for number in [0x11, 0x12, 0x13, 0x14, 0x20, 0x21, 0x22, 0x27] {
         assert!(trial.refused[number] > 10, "{number:02x} came up {} times", trial.refused[number]);
     }
 }

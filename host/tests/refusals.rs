@@ -1,9 +1,13 @@
 //! Every number that refuses, with its values, and what it leaves. 10 is in the crate's own tests: a `Seat` can't bring it about.
 use coe_desk::{AbortCode, Answer, Desk, ListKind, Order, Refusal, Seat};
+use common::drive::emergency;
+
+mod common;
 
 const FIRST: Seat = Seat::ALL[0];
 const SECOND: Seat = Seat::ALL[1];
 const UPLOAD: [u8; 16] = *b"\x0a\0\0\0\0\x13\0\x30\x43\x18\x10\x01\x78\x56\x34\x12";
+const TOO_HOT: Refusal = Refusal::Emergency { code: 0x4210, register: 8, data: [1, 2, 3, 4, 5] };
 
 /// A desk whose head, the first seat, awaits the reply to its order.
 fn awaiting(order: Order<'_>, budget: u16) -> Desk {
@@ -107,8 +111,6 @@ fn lengths_of_buffers() {
 fn replies_that_end_a_transfer() {
     let (order, list) = (Order::upload(0x1018, 1), Order::ObjectList(ListKind::All));
     ends(order, &UPLOAD[..11], 0x20, Refusal::Undecodable);
-    let emergency = [&reply(&[(7, 0x10), (12, 0x10), (13, 0x42), (14, 9)])[..], &[0; 4]].concat();
-    ends(order, &emergency, 0x21, Refusal::Emergency { code: 0x4210, register: 9 });
     let abort = reply(&[(8, 0x80), (9, 0x19), (11, 7), (12, 0x11), (13, 0), (14, 9), (15, 6)]);
     let aborted = |code, index, sub_index| Refusal::Aborted { code, index, sub_index };
     ends(order, &abort, 0x22, aborted(AbortCode::SubIndexNotFound, 0x1019, 7));
@@ -128,11 +130,6 @@ fn segment_replies_that_end_a_transfer() {
     let segment = reply(&[(8, 0x00)]);
     ends(&segment[..8], 0x20, Refusal::Undecodable);
     ends(&reply(&[(8, 0xa0)])[..9], 0x20, Refusal::Undecodable);
-    let emergency = [&reply(&[(7, 0x10), (12, 0x10), (13, 0x42), (14, 9)])[..], &[0; 4]].concat();
-    for length in 9..20 {
-        ends(&emergency[..length], 0x20, Refusal::Undecodable);
-    }
-    ends(&emergency, 0x21, Refusal::Emergency { code: 0x4210, register: 9 });
     let abort = reply(&[(8, 0x80), (12, 0), (13, 0), (14, 4), (15, 5)]);
     for length in 9..16 {
         ends(&abort[..length], 0x20, Refusal::Undecodable);
@@ -141,6 +138,58 @@ fn segment_replies_that_end_a_transfer() {
     ends(&reply(&[(5, 0x12), (8, 0x00)])[..9], 0x23, Refusal::WrongReply);
     ends(&segment[..15], 0x25, Refusal::MissingBytes);
     ends(&reply(&[(0, 2), (8, 0x00)])[..9], 0x26, Refusal::LengthField);
+}
+
+/// A desk for each reply that an emergency can come in place of, which its head awaits.
+fn awaiting_an_sdo_reply() -> [Desk; 3] {
+    [awaiting(Order::upload(0x1018, 1), 9), awaiting(Order::download(0x1018, 1, &[8]), 9), awaiting_segment()]
+}
+
+#[test]
+fn emergencies_end_a_transfer() {
+    for desk in awaiting_an_sdo_reply() {
+        ends_at(desk, b"\x0a\0\0\0\0\x13\0\x10\x10\x42\x08\x01\x02\x03\x04\x05", 0x21, TOO_HOT);
+    }
+    let with_more_behind = [&emergency(0x4210, 8, [1, 2, 3, 4, 5])[..], &[0xee; 112]].concat();
+    for desk in awaiting_an_sdo_reply() {
+        ends_at(desk, &with_more_behind, 0x21, TOO_HOT);
+    }
+    for length in 9..16 {
+        for desk in awaiting_an_sdo_reply() {
+            ends_at(desk, &with_more_behind[..length], 0x20, Refusal::Undecodable);
+        }
+    }
+}
+
+#[test]
+fn an_emergencys_byte_8_is_its_codes_low_byte() {
+    for low in 0..=255 {
+        let (code, data) = (u16::from_le_bytes([low, 0xff]), [low, 0, 0xff, 0, !low]);
+        for desk in awaiting_an_sdo_reply() {
+            ends_at(desk, &emergency(code, low, data), 0x21, Refusal::Emergency { code, register: low, data });
+        }
+    }
+}
+
+#[test]
+fn an_emergency_of_any_listed_type_is_one() {
+    for byte_5 in 0x10..0x20u8 {
+        let mut message = emergency(0x4210, 8, [1, 2, 3, 4, 5]);
+        message[5] = byte_5;
+        let (number, refusal) = match byte_5 & 0x0f {
+            0..=5 | 15 => (0x21, TOO_HOT),
+            _ => (0x20, Refusal::Undecodable),
+        };
+        awaiting_an_sdo_reply().into_iter().for_each(|desk| ends_at(desk, &message, number, refusal));
+    }
+}
+
+#[test]
+fn service_1_in_a_list_is_no_emergency() {
+    let (mut desk, mut data) = (awaiting(Order::ObjectList(ListKind::All), 9), [0; 8]);
+    let fragment = reply(&[(7, 0x10), (8, 2)]);
+    assert_eq!(desk.receive(FIRST, &fragment, &mut data), Ok(Answer::Done { length: 2 }));
+    assert_eq!(data, [0x34, 0x12, 0, 0, 0, 0, 0, 0]);
 }
 
 #[test]
@@ -153,16 +202,13 @@ fn a_spent_budget() {
 
 #[test]
 fn every_refusal_is_an_error_that_says_something() {
-    let refusals: [Box<dyn std::error::Error>; 3] = [
-        Box::new(Refusal::NotAtHead),
-        Box::new(Refusal::Emergency { code: 0x4210, register: 9 }),
-        Box::new(Refusal::Unnamed { number: 0x17 }),
-    ];
+    let refusals: [Box<dyn std::error::Error>; 3] =
+        [Box::new(Refusal::NotAtHead), Box::new(TOO_HOT), Box::new(Refusal::Unnamed { number: 0x17 })];
     assert_eq!(
         refusals.map(|refusal| refusal.to_string()),
         [
             "not at the head of the line: wait until the transfers ahead have ended",
-            "the drive sent emergency 0x4210, register 0x09",
+            "the drive sent emergency 0x4210 (device temperature), register 0x08, data 01 02 03 04 05",
             "number 17: the linked archive is newer than this crate",
         ]
     );

@@ -52,6 +52,24 @@ static void chunk_of(uint8_t kind, uint32_t earlier, coe_answer a, size_t *from,
 
 uint8_t *any_reply(lent *l);
 
+/* An emergency: service 1 and a listed type, where no list is asked for. */
+static int is_emergency(uint8_t kind, const uint8_t *r) {
+    uint8_t type = r[5] & 15;
+    return kind != 4 && kind != 8 && r[7] >> 4 == 1 && (type <= 5 || type == 15);
+}
+
+int told_as_sent(coe_answer a, const uint8_t *r) {
+    uint64_t data = 0;
+    if (a.number == 0x21) {
+        EXPECT("an emergency's code", r[8] + 256 * r[9], a.code);
+        EXPECT("its register", r[10], a.sub);
+        for (int i = 15; 11 <= i; i--)
+            data = 256 * data + r[i];
+    }
+    EXPECT("an emergency's data, and 0 beside any other number", data, a.data);
+    return 0;
+}
+
 int judging(uint32_t calls) {
     static const uint8_t kinds[8] = {1, 1, 3, 7, 7, 4, 8, 0};
     while (calls--) {
@@ -68,8 +86,12 @@ int judging(uint32_t calls) {
             EXPECT("a length out of range", 0x16, a.number);
         else if (reply.len < (kind == 7 ? 9 : 12))
             EXPECT("too short a reply", 0x20, a.number);
+        else if (is_emergency(kind, r))
+            EXPECT("an emergency, or too short a one", reply.len < 16 ? 0x20 : 0x21, a.number);
         else
-            EXPECT("judged: 00 to 02, or 20 to 26", 1, a.number <= 0x02 || (0x20 <= a.number && a.number <= 0x26));
+            EXPECT("judged: 00 to 02, 20, or 22 to 26", 1, a.number <= 0x02 || a.number == 0x20 || (0x22 <= a.number && a.number <= 0x26));
+        if (told_as_sent(a, r))
+            return 1;
         chunk_of(kind, earlier, a, &from, &to);
         EXPECT("only the chunk is written", 1, unchanged_but(&data, from, to));
         EXPECT("guards of the data buffer", 1, guarded(&data));

@@ -40,7 +40,7 @@ static uint8_t refusal(uint8_t seat, int receives) {
     return receives != reply_due ? 0x14 : 0;
 }
 
-/* A reply that may well be one to 0x1018:01, or to a list: most of its bytes are as they should be. */
+/* A reply that may well be one to 0x1018:01, or to a list: most of its bytes are as they should be. An emergency has any from byte 8 on. */
 uint8_t *any_reply(lent *l) {
     static const uint8_t commands[8] = {0x43, 0x4f, 0x40, 0x40, 0x60, 0x80, 0x00, 0x01};
     int list = below(3) == 0;
@@ -52,7 +52,7 @@ uint8_t *any_reply(lent *l) {
     front[12] = (uint8_t)below(80);
     if (below(12) == 0)
         front[below(16)] = (uint8_t)any();
-    for (size_t i = 0; i < 16 && i < l->len; i++)
+    for (size_t i = 0; i < (front[7] >> 4 == 1 ? 8 : 16) && i < l->len; i++)
         r[i] = front[i];
     memcpy(l->was, r, l->len);
     return r;
@@ -99,6 +99,8 @@ static int receiving(uint8_t seat, coe_answer *a) {
         EXPECT("receive", expected, a->number);
     else
         EXPECT("judged: 00 to 02, or 20 to 27", 1, a->number <= 0x02 || (0x20 <= a->number && a->number <= 0x27));
+    if (told_as_sent(*a, r))
+        return 1;
     EXPECT("guards of the data buffer", 1, guarded(&data));
     EXPECT("the reply and its guards", 1, guarded(&reply) && unchanged(&reply));
     EXPECT("1x and 2x leave the data buffer", 1, a->number < 0x10 || unchanged(&data));
@@ -128,6 +130,7 @@ static int one_call(void) {
     if (call < 3 ? entering((uint8_t)below(10), &a) : call < 8 ? sending(seat, &a) : call < 15 ? receiving(seat, &a) : leaving(seat, &a))
         return 1;
     seen[a.number]++;
+    EXPECT("data beside an emergency alone", 1, a.number == 0x21 || a.data == 0);
     EXPECT("a refusal leaves the record", 1, a.number >> 4 != 1 || memcmp(&was, &held.desk, sizeof was) == 0);
     for (size_t i = 0; i < GUARD; i++)
         EXPECT("guards of the record", 1, held.before[i] == 0x5a && held.behind[i] == 0x5a);

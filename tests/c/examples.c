@@ -1,4 +1,5 @@
-/* The specification's examples, through C, and those of its request [1]: a segment reply's data begin at byte 9. */
+/* The specification's examples, through C, and those of its requests [1] and [5]: a segment reply's data begin at byte 9, and an
+ * emergency's code at byte 8. */
 #include "test.h"
 
 static uint8_t digit(char c) { return (uint8_t)(c <= '9' ? c - '0' : c - 'a' + 10); }
@@ -64,8 +65,41 @@ static int replies(void) {
     EXPECT("its code", 0x06020000, a.code);
     EXPECT("its index", 0x1018, a.index);
     EXPECT("its sub-index", 1, a.sub);
+    EXPECT("no data, which an emergency alone has", 0, a.data);
     return 0;
 }
+
+/* The drive's overtemperature message: code 0x4210, register 8 and the bytes 1 to 5. */
+#define HOT "0a000000001300101042080102030405"
+
+static int emergency(uint8_t kind) {
+    uint8_t data[64] = {0}, untouched[64] = {0};
+    coe_answer a = judged(kind, 0, HOT, data, 64);
+    EXPECT("overtemperature", 0x21, a.number);
+    EXPECT("its code", 0x4210, a.code);
+    EXPECT("its register", 0x08, a.sub);
+    EXPECT("its data, the first byte lowest", 0x0504030201, a.data);
+    EXPECT("no index", 0, a.index);
+    EXPECT("no length", 0, a.length);
+    a = judged(kind, 0, "0a0000000013001010420801020304", data, 64);
+    EXPECT("15 bytes", 0x20, a.number);
+    EXPECT("and no data of it", 0, a.data);
+    a = judged(kind, 0, "0a0000000013001080ff080102030405", data, 64);
+    EXPECT("a code whose low byte has an abort's specifier", 0x21, a.number);
+    EXPECT("the code", 0xff80, a.code);
+    a = judged(kind, 0, "0a00000000130010e0ff080102030405", data, 64);
+    EXPECT("a code whose low byte has an unlisted specifier", 0x21, a.number);
+    EXPECT("the code", 0xffe0, a.code);
+    a = judged(kind, 0, "0000000000130010104208fffefdfcfb5566778899", data, 64);
+    EXPECT("a length field of 0, and bytes behind the data", 0x21, a.number);
+    EXPECT("the data alone", 0xfbfcfdfeff, a.data);
+    EXPECT("a listed type other than 3", 0x21, judged(kind, 0, "0a000000001400101042080102030405", data, 64).number);
+    EXPECT("an unlisted type", 0x20, judged(kind, 0, "0a000000001600101042080102030405", data, 64).number);
+    EXPECT("nothing is stored", 0, memcmp(data, untouched, 64));
+    return 0;
+}
+
+static int emergencies(void) { return emergency(1) || emergency(3) || emergency(7); }
 
 static int short_segments(void) {
     uint8_t data[64] = {0};
@@ -83,7 +117,7 @@ static int short_segments(void) {
     a = judged(7, 0, "0a000000001300208018100100000206", data, 64);
     EXPECT("of 16 bytes", 0x22, a.number);
     EXPECT("bytes 9 and 10 are its index", 0x1018, a.index);
-    EXPECT("an emergency of 9 bytes", 0x20, judged(7, 0, "0a0000000013001000", data, 64).number);
+    EXPECT("an emergency of 9 bytes", 0x20, judged(7, 0, "0a0000000013001010", data, 64).number);
     EXPECT("9 bytes with type 4", 0x23, judged(7, 0, "030000000014003000", data, 64).number);
     EXPECT("9 bytes with type 6", 0x20, judged(7, 0, "030000000016003000", data, 64).number);
     return 0;
@@ -104,6 +138,9 @@ static int lists(void) {
     item = coe_list_item(data, 4, item.next);
     EXPECT("the list's end", 0x20, item.number);
     EXPECT("a refusal leaves the position", 4, item.next);
+    a = judged(8, 4, "0a00000000130010020000001810", data, 8);
+    EXPECT("service 1 is no emergency in a list", 0x00, a.number);
+    EXPECT("and has no data", 0, a.data);
     EXPECT("an unknown kind before an overlong buffer", 0x15, coe_judge(2, 0, 0, 0, NULL, 0, data, 131071).number);
     return 0;
 }
@@ -167,4 +204,34 @@ static int drive_name(void) {
     return 0;
 }
 
-int examples(void) { return frames() || replies() || short_segments() || lists() || values() || turns() || drive_name(); }
+/* The drive grows too hot while its name comes in segments: the transfer is over, and the next one goes on. */
+static int overtemperature(void) {
+    coe_desk desk;
+    uint8_t frame[16], data[32] = {0}, reply[16];
+    coe_desk_fresh(&desk);
+    EXPECT("enter", 0x01, coe_desk_enter(&desk, 0, 1, 0x1008, 0, NULL, 0).number);
+    EXPECT("the next in line", 0x01, coe_desk_enter(&desk, 1, 1, 0x1018, 4, NULL, 0).number);
+    EXPECT("send", 0x02, coe_desk_send(&desk, 0, frame, 16).number);
+    bytes_of("0a000000001300304108100012000000", reply);
+    EXPECT("segments follow", 0x01, coe_desk_receive(&desk, 0, reply, 16, data, sizeof data).number);
+    EXPECT("send", 0x02, coe_desk_send(&desk, 0, frame, 16).number);
+    bytes_of(HOT, reply);
+    coe_answer a = coe_desk_receive(&desk, 0, reply, 16, data, sizeof data);
+    EXPECT("the emergency", 0x21, a.number);
+    EXPECT("its code", 0x4210, a.code);
+    EXPECT("its register", 0x08, a.sub);
+    EXPECT("its data", 0x0504030201, a.data);
+    EXPECT("the seat is free", 0x12, coe_desk_leave(&desk, 0).number);
+    EXPECT("the next one's request", 0x02, coe_desk_send(&desk, 1, frame, 16).number);
+    bytes_of("0a000000001300304318100478563412", reply);
+    a = coe_desk_receive(&desk, 1, reply, 16, data, sizeof data);
+    EXPECT("the next one is done", 0x00, a.number);
+    EXPECT("with no data of an emergency", 0, a.data);
+    EXPECT("its payload, and nothing of the name", 0, memcmp(data, "\x78\x56\x34\x12\0\0\0", 7));
+    return 0;
+}
+
+int examples(void) {
+    return frames() || replies() || emergencies() || short_segments() || lists() || values() || turns() || drive_name()
+           || overtemperature();
+}

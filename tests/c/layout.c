@@ -1,4 +1,4 @@
-/* The record's size, and that the archive's fields lie where the header's size has room for them. */
+/* The record's size, and that the archive's fields lie where the header's size has room for them; an answer's bytes. */
 #include "test.h"
 
 /* As the crates transfer and desk declare it. */
@@ -24,10 +24,22 @@ typedef struct {
 
 _Static_assert(sizeof(coe_desk) == sizeof(declared), "the header's record has the size of the declared one");
 _Static_assert(_Alignof(coe_desk) == _Alignof(declared), "and its alignment");
-_Static_assert(sizeof(coe_answer) == 12 && sizeof(coe_unsigned) == 8 && sizeof(coe_signed) == 8, "answers are what crosses");
+_Static_assert(sizeof(coe_answer) == 24 && sizeof(coe_unsigned) == 8 && sizeof(coe_signed) == 8, "answers are what crosses");
 _Static_assert(sizeof(coe_item) == 16 && sizeof(coe_quantities) == 12, "answers are what crosses");
+_Static_assert(offsetof(coe_answer, length) == 8 && offsetof(coe_answer, data) == 16, "bytes 12 to 15 of an answer are padding");
 
-int layout(void) {
+/* The answer in which most fields are not 0, an emergency's. What the padding holds is nobody's to ask. */
+static int answer(void) {
+    static const uint8_t reply[16] = {0x0a, 0, 0, 0, 0, 0x13, 0, 0x10, 0x10, 0x42, 0x08, 1, 2, 3, 4, 5};
+    coe_answer a = coe_judge(1, 0x1018, 1, 0, reply, sizeof reply, NULL, 0);
+    uint8_t bytes[sizeof a];
+    memcpy(bytes, &a, sizeof a);
+    EXPECT("number, sub, index, code and length", 0, memcmp(bytes, "\x21\x08\0\0\x10\x42\0\0\0\0\0\0", 12));
+    EXPECT("data: the five bytes in their order", 0, memcmp(bytes + 16, "\1\2\3\4\5\0\0\0", 8));
+    return 0;
+}
+
+static int record(void) {
     coe_desk desk;
     declared seen;
     memset(&desk, 0xff, sizeof desk);
@@ -52,3 +64,5 @@ int layout(void) {
     }
     return 0;
 }
+
+int layout(void) { return record() || answer(); }

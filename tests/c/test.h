@@ -31,6 +31,9 @@ int guarded(const lent *l);
 int unchanged(const lent *l);
 int unchanged_but(const lent *l, size_t from, size_t to);
 
+/* That an answer to this reply has an emergency's values if it is one, and no data otherwise. */
+int told_as_sent(coe_answer a, const uint8_t *reply);
+
 int examples(void);
 int layout(void);
 int writers(uint32_t calls);

@@ -1,9 +1,10 @@
-"""Document 01's rules in Python, with request [1] of document 02: request frames, the judgement of one reply, reads, the order
-program.
+"""Document 01's rules in Python, with requests [1] and [5] of document 02: request frames, the judgement of one reply, reads, the
+order program.
 
 What the project's cases expect is computed here. The judgement is that of the model with which vectors.tsv was made, so
 that its agreement with that table is no second opinion; the second opinion is the Rust's, in the rows tagged R. The Rust takes a
 segment's data from byte 12, and was given them there: tools/cases/make says how."""
+import collections
 
 TYPES = {0, 1, 2, 3, 4, 5, 15}
 SERVICES = set(range(1, 9))
@@ -13,6 +14,9 @@ OPERATIONS = set(range(1, 8))
 LEAST, SEGMENT_LEAST = 12, 9
 # "By ETG.1000.6 a segment reply's data begin at byte 9."
 SEGMENT_DATA = 9
+# "An emergency under 16 bytes is 20"; "In ETG.1000.6 the error code follows the CoE header: bytes 8-9, register 10, five data bytes."
+EMERGENCY_LEAST, ABORT_LEAST = 16, 16
+ERROR_CODE, ERROR_REGISTER, ERROR_DATA = 8, 10, slice(11, 16)
 
 
 def word(b, at):
@@ -57,17 +61,25 @@ def written(good, size, frame):
     return 0x02, frame.ljust(size, b"\0")
 
 
-# ---- one reply: (number, values, chunk or None); values are (sub, index, code)
+# ---- one reply: (number, values, chunk or None)
 
-NONE = (0, 0, 0)
+Values = collections.namedtuple("Values", "sub index code data", defaults=(0, 0, 0, 0))
+NONE = Values()
+UNDECODABLE = 0x20, NONE, None
 
 
-def alarm(r):
-    if r[7] >> 4 == 1:
-        return (0x20, NONE, None) if len(r) < 20 else (0x21, (r[14], 0, word(r, 12)), None)
-    if r[8] >> 5 == 4:
-        return (0x20, NONE, None) if len(r) < 16 else (0x22, (r[11], word(r, 9), long(r, 12)), None)
-    return None
+def emergency(r):
+    """The register stands in `sub`, and the five bytes are one number, the first of them lowest."""
+    if len(r) < EMERGENCY_LEAST:
+        return UNDECODABLE
+    data = int.from_bytes(r[ERROR_DATA], "little")
+    return 0x21, Values(sub=r[ERROR_REGISTER], code=word(r, ERROR_CODE), data=data), None
+
+
+def abort(r):
+    if len(r) < ABORT_LEAST:
+        return UNDECODABLE
+    return 0x22, Values(sub=r[11], index=word(r, 9), code=long(r, 12)), None
 
 
 def decodable(r, least):
@@ -75,18 +87,22 @@ def decodable(r, least):
 
 
 def sdo_reply(r, least, index, sub, rest):
-    if not (decodable(r, least) and r[8] >> 5 in SPECIFIERS):
-        return 0x20, NONE, None
-    raised = alarm(r)
-    if raised:
-        return raised
+    if not decodable(r, least):
+        return UNDECODABLE
+    # "the header reading must not judge byte 8 when the service is 1"
+    if r[7] >> 4 == 1:
+        return emergency(r)
+    if r[8] >> 5 not in SPECIFIERS:
+        return UNDECODABLE
+    if r[8] >> 5 == 4:
+        return abort(r)
     if r[5] & 15 != 3 or index is not None and (word(r, 9) != index or r[11] != sub):
         return 0x23, NONE, None
     return rest(r)
 
 
 def download_reply(r, index, sub):
-    return sdo_reply(r, LEAST, index, sub, lambda r: (0x20, NONE, None) if len(r) < 16 else (0x00, NONE, b""))
+    return sdo_reply(r, LEAST, index, sub, lambda r: UNDECODABLE if len(r) < 16 else (0x00, NONE, b""))
 
 
 def upload_reply(r, index, sub, n):
@@ -95,7 +111,7 @@ def upload_reply(r, index, sub, n):
             p = 4 - (r[8] >> 2 & 3)
             return (0x25, NONE, None) if 12 + p > len(r) else (0x00, NONE, r[12:12 + p])
         if len(r) < 16:
-            return 0x20, NONE, None
+            return UNDECODABLE
         if long(r, 12) > n:
             return 0x24, NONE, None
         d = max(word(r, 0) - 10, 0)
@@ -119,8 +135,9 @@ def segment_reply(r, earlier, n):
 
 
 def list_reply(r, begun, earlier, n):
+    # "Information replies stay as they are", also those of service 1
     if not (decodable(r, LEAST) and r[8] & 127 in OPERATIONS):
-        return 0x20, NONE, None
+        return UNDECODABLE
     if r[8] & 127 != 2:
         return 0x02, NONE, None
     if word(r, 0) < 8:

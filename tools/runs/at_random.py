@@ -40,13 +40,19 @@ def fitting(t):
                            r.expedited(o.index, sub, (content(3) + b"e"))), (6, 2, 2))[0]
 
 
+def emergency():
+    """Any, and at times cut."""
+    whole = r.emergency(chance.randrange(65536), chance.randrange(256), chance.randbytes(5))
+    return whole[:chance.choice((9, 12, 15, 16, 16, 16))]
+
+
 def odd(t):
     """A reply with something wrong."""
     reply = bytearray(fitting(t))
     if chance.random() < 0.5:
         reply[chance.choice((0, 5, 7, 8, 9))] = chance.randrange(256)
         return bytes(reply)
-    return chance.choice((bytes(reply[:chance.randrange(len(reply) + 1)]), content(30), r.emergency(0x8130, 9),
+    return chance.choice((bytes(reply[:chance.randrange(len(reply) + 1)]), content(30), emergency(),
                           r.aborted(t.order.index, t.order.sub, 0x06090011)))
 
 

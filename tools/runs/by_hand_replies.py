@@ -96,15 +96,14 @@ def over_within_segments(h):
 def short_segments(h):
     """let a segment reply of 9 to 11 bytes be judged too: 20 now starts below 9 bytes there, and a segment abort still needs 16"""
     two = r.segment(b"ab", True)
-    abort, emergency = r.aborted(0x1018, 1, 0x06020000), r.emergency(0x8130, 0x11)
+    abort = r.aborted(0x1018, 1, 0x06020000)
     for number, reply in ((0x20, two[:8]), (0x00, r.segment(b"", True, padded=False)), (0x00, r.segment(b"", True)[:9]),
                           (0x01, r.segment(b"", False, padded=False)), (0x25, two[:10]), (0x00, two[:11]), (0x00, two),
                           (0x00, r.segment(b"ab", True, padded=False)), (0x25, r.segment(b"ab", True, padded=False)[:10]),
                           (0x26, r.header(2, 3) + b"\x01"), (0x23, r.header(3, 3, mailbox_type=4) + b"\x01"),
                           (0x20, r.header(3, 3, mailbox_type=6) + b"\x01"), (0x20, r.header(3, 9) + b"\x01"),
                           (0x20, r.header(3, 3) + b"\xa1"),
-                          (0x20, abort[:9]), (0x20, abort[:11]), (0x20, abort[:15]), (0x22, abort), (0x20, emergency[:9]),
-                          (0x20, emergency[:11]), (0x20, emergency[:19]), (0x21, emergency)):
+                          (0x20, abort[:9]), (0x20, abort[:11]), (0x20, abort[:15]), (0x22, abort)):
         h.fresh()
         in_segments(h, 4)
         h.send(4).gives(0x02)

@@ -1,7 +1,7 @@
 """Document 01's desk in Python: the transfers in order of entry, the counter of the next frame, and what is due of each.
 
 The document's sentences stand above what they ask for; what they leave open is as docs/DECISIONS.md has it. A reply is judged by
-tools/cases/model.py."""
+tools/cases/model.py. An answer's data are an emergency's five bytes as one number, the first of them lowest, and 0 beside others."""
 import collections
 
 import model as m
@@ -11,7 +11,7 @@ DOWNLOADS, LISTS = (DOWNLOAD, COMPLETE_DOWNLOAD), (OBJECT_LIST, QUANTITIES)
 REQUEST, REPLY = "request", "reply"
 
 Order = collections.namedtuple("Order", "kind sub index value len budget")
-Answer = collections.namedtuple("Answer", "number sub index code length", defaults=(0, 0, 0, 0))
+Answer = collections.namedtuple("Answer", "number sub index code length data", defaults=(0, 0, 0, 0, 0))
 
 
 class Transfer:
@@ -125,7 +125,7 @@ class Desk:
         elif number != 0x02:
             # "transfer over", "seat free"
             self.line.remove(t)
-        return Answer(number, *values, t.sum if number == 0x00 else 0)
+        return Answer(number, values.sub, values.index, values.code, t.sum if number == 0x00 else 0, values.data)
 
     def leave(self, seat):
         if seat > 7:

@@ -16,7 +16,7 @@ class Host:
         self.rules, self.desk, self.memory = rules, rules.Desk(), bytearray(MEMORY)
 
     def told(self, a):
-        return (f"{a.number:02x} {a.sub:02x} {a.index:04x} {a.code:08x} {a.length:08x}"
+        return (f"{a.number:02x} {a.sub:02x} {a.index:04x} {a.code:08x} {a.length:08x} {a.data:010x}"
                 f" {self.desk.counter:02x} {len(self.desk.line):02x}")
 
     def lent(self, call, use):
@@ -64,9 +64,9 @@ class Recorder:
         self.outcomes.append(self.host.outcome(call))
         return self
 
-    def gives(self, wanted):
-        if not self.outcomes[-1].startswith(f"{wanted:02x} "):
-            raise SystemExit(f"tools/runs: the model disagrees with a sequence made by hand, which wants {wanted:02x}:\n"
+    def gives(self, wanted, values=""):
+        if not self.outcomes[-1].startswith(f"{wanted:02x} {values}"):
+            raise SystemExit(f"tools/runs: the model disagrees with a sequence made by hand, which wants {wanted:02x} {values}:\n"
                              f"  call    {self.calls[-1].hex()}\n  outcome {self.outcomes[-1]}")
         return self
 

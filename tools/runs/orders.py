@@ -35,3 +35,18 @@ def in_segments(h, seat, size=20, **order):
 def follow_in_segments(h, seat, size=20):
     h.send(seat).gives(0x02)
     h.receive(seat, r.segments_follow(0x1018, 1, size)).gives(0x01)
+
+
+def asked(h, seat, order):
+    """The transfer up to its first request, which was sent."""
+    h.enter(seat, order).gives(0x01)
+    h.send(seat).gives(0x02)
+
+
+def asked_for_a_segment(h, seat, earlier):
+    """An upload in segments up to a request that was sent, with as many segments before it."""
+    in_segments(h, seat)
+    h.send(seat).gives(0x02)
+    for toggle in range(earlier):
+        h.receive(seat, r.segment(b"1234567", False, toggle % 2)).gives(0x01)
+        h.send(seat).gives(0x02)

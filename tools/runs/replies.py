@@ -1,4 +1,5 @@
-"""Replies as a drive sends them, by document 01's layouts and, of a segment, by ETG.1000.6: its data begin at byte 9."""
+"""Replies as a drive sends them, by document 01's layouts and, of segments and emergencies, by ETG.1000.6: a segment's data begin at
+byte 9, an emergency's error code at byte 8."""
 from stored import le
 
 
@@ -36,11 +37,11 @@ def aborted(index, sub, code):
     return sdo(4 << 5, index, sub, le(code, 4))
 
 
-def emergency(code, register):
-    return header(10, 1) + bytes(4) + le(code, 2) + bytes([register]) + bytes(5)
+def emergency(code, register, data=b"\xd1\xd2\xd3\xd4\xd5", service=1, **more):
+    return header(10, service, **more) + le(code, 2) + bytes([register]) + data
 
 
-def fragment(chunk, first, more, operation=2, left=0):
+def fragment(chunk, first, more, operation=2, left=0, service=8):
     """A list's fragment: the chunk from byte 14 in the first, from 12 in later ones, and 8 more than it in the length field."""
-    return (header(len(chunk) + 8, 8) + bytes([operation | more << 7, 0]) + le(left, 2)
+    return (header(len(chunk) + 8, service) + bytes([operation | more << 7, 0]) + le(left, 2)
             + (bytes([1, 0]) if first else b"") + chunk)

@@ -1,11 +1,12 @@
-"""The eight bytes from byte 8 of a reply on as those of a CAN frame, and the fields of Wireshark's CANopen dissector."""
+"""The eight bytes from byte 8 of a reply on as those of a CAN frame, an SDO reply or an emergency, and the fields of Wireshark's CANopen
+dissector."""
 import struct
 
 from frame import Frame
 
 NAME = "CANopen"
 LINK, OPTIONS, LAYER = 227, ("-d", "can.subdissector,canopen"), "canopen"
-SDO_REPLY_OF_NODE_1 = 0x581
+SDO_REPLY_OF_NODE_1, EMERGENCY_OF_NODE_1 = 0x581, 0x081
 FIRST, BEHIND = 8, 16
 SEGMENT, ABORT = 0, 4
 
@@ -13,9 +14,10 @@ SEGMENT, ABORT = 0, 4
 FIELDS = {
     "sdo.scs": "specifier", "sdo.toggle": "toggle", "sdo.n": "unused", "sdo.c": "last", "sdo.data.bytes": "data",
     "sdo.main_idx": "index", "sdo.sub_idx": "sub-index", "sdo.abort_code": "abort code",
+    "em.err_code": "emergency code", "em.err_reg": "register", "em.err_field": "data",
 }
-# The CAN frame's number and its parts, and the command byte, whose parts are compared one by one.
-HOLDERS = {"cob_id", "function_code", "node_id", "sdo.cmd"}
+# The CAN frame's number and its parts; the command byte, whose parts are compared one by one; the register's bits, compared as one.
+HOLDERS = {"cob_id", "function_code", "node_id", "sdo.cmd", *(f"em.err_reg_{bit}" for bit in "ge cu vo te co de re ma".split())}
 # The rows of docs/DIFFERENCES.md that hold for this dissector too: it names the unused count and shows all seven bytes.
 ROWS = {"W9"}
 
@@ -26,9 +28,12 @@ class OnCan(Frame):
     def packed(self):
         return self.mailbox[:BEHIND]
 
+    def cob_id(self):
+        return EMERGENCY_OF_NODE_1 if "emergency code" in self.asked else SDO_REPLY_OF_NODE_1
 
-def on_the_wire(_, mailbox):
-    return struct.pack(">IB3x", SDO_REPLY_OF_NODE_1, BEHIND - FIRST) + mailbox[FIRST:BEHIND]
+
+def on_the_wire(frame, mailbox):
+    return struct.pack(">IB3x", frame.cob_id(), BEHIND - FIRST) + mailbox[FIRST:BEHIND]
 
 
 def known(parts):
@@ -50,7 +55,11 @@ def on_can(frame):
     return OnCan(f"{frame.kind}, on CAN", known(frame.asked), otherwise, mailbox=frame.mailbox, ours=judged(frame))
 
 
+def is_on_can(frame):
+    """A segment of up to seven bytes, an abort or an emergency."""
+    kind = frame.asked.get("specifier") in (SEGMENT, ABORT) or "emergency code" in frame.asked
+    return frame.ours and kind and len(frame.packed()) == BEHIND
+
+
 def replies(frames):
-    """The segments of up to seven bytes and the aborts."""
-    return [on_can(frame) for frame in frames
-            if frame.ours and frame.asked.get("specifier") in (SEGMENT, ABORT) and len(frame.packed()) == BEHIND]
+    return [on_can(frame) for frame in frames if is_on_can(frame)]

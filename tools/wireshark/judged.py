@@ -76,6 +76,10 @@ def abort(ask, mailbox):
 
 
 def emergency(ask, mailbox):
-    number, *values = ask("judge", "upload", ROOM, mailbox, 0, 0)
-    code, register = (int(value, 16) for value in values) if number == EMERGENCY else (None, None)
-    return {"emergency code": code, "register": register}
+    """None where it is not one and the same emergency to an upload, a download and a segment's request."""
+    requests = ("upload", 0, 0), ("download", 0, 0), ("segment",)
+    first, *others = [ask("judge", kind, ROOM, mailbox, *place) for kind, *place in requests]
+    if first[0] != EMERGENCY or others != [first, first]:
+        return dict.fromkeys(("emergency code", "register", "data"))
+    _, code, register, data = first
+    return {"emergency code": int(code, 16), "register": int(register, 16), "data": bytes.fromhex(data)}

@@ -107,9 +107,8 @@ def information_error(code):
 
 
 def emergency(code, register, data):
-    ours = struct.unpack("<HB", data[1:4])
-    otherwise = {"emergency code": ("W14", None, ours[0]), "register": ("W14", None, ours[1])}
-    parts = {"emergency code": code, "register": register}
+    parts = {"emergency code": code, "register": register, "data": data}
+    otherwise = {part: ("W14", None, value) for part, value in parts.items()}
     return reply("emergency", EMERGENCY, struct.pack("<HB", code, register) + data, parts, otherwise, judged.emergency)
 
 
@@ -136,6 +135,15 @@ def uploads():
         yield normal(0x1008, 0, size, b"")
 
 
+def emergencies():
+    """The overtemperature of request [5], also with each specifier where an SDO reply has it, and each bit of the eight bytes."""
+    for specifier in range(8):
+        yield emergency(0x4210 | specifier << 5, 0x08, bytes.fromhex("0102030405"))
+    for bit in range(64):
+        code, register, data = struct.unpack("<HB5s", struct.pack("<Q", 1 << bit))
+        yield emergency(code, register, data)
+
+
 def replies():
     yield from uploads()
     for index, sub in PLACES:
@@ -153,4 +161,4 @@ def replies():
     for length, incomplete in itertools.product((4, 6, 100), (0, 1)):
         yield later_fragment(counting(length), incomplete, 0x102 * incomplete)
     yield information_error(0x06020000)
-    yield emergency(0x8130, 0x11, bytes.fromhex("a1a2a3a4a5"))
+    yield from emergencies()

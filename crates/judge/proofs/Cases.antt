@@ -11,12 +11,11 @@ use lib.ListN.{length}
 use Rattle.wire.specs.Words.{pick}
 use Rattle.wire.proofs.Cases.{by}
 use Rattle.mailbox.specs.Fields.{the, completeSize}
-use Rattle.mailbox.specs.Numbers.{serviceNumber, commandNumber, operationNumber}
-use Rattle.mailbox.specs.declared.numbers.CoeService.{CoeService}
+use Rattle.mailbox.specs.Numbers.{commandNumber, operationNumber}
 use Rattle.mailbox.specs.declared.numbers.CoeCommand.{CoeCommand}
 use Rattle.judge.specs.Places.{emergencyLeast, abortLeast, downloadLeast, expeditedAt, normalAt, normalLeast, segmentAt}
 use Rattle.judge.specs.Headers.{readHeaders, readSegmentHeaders, readInformationHeaders, wrongType, wrongAddress}
-use Rattle.judge.specs.Alarm.{emergencyIn, abortIn, alarmIn, unlessAlarm}
+use Rattle.judge.specs.Alarm.{emergencyIn, abortIn}
 use Rattle.judge.specs.Chunk.{lacking, chunkAt, onChunk}
 use Rattle.judge.specs.Reply.{onHeaders, inOrder, replyTo}
 use Rattle.judge.specs.Download.{downloadOf, judgeDownload}
@@ -25,7 +24,6 @@ use Rattle.judge.specs.Segment.{chunkLength, segmentOf, onSegmentHeaders
 use Rattle.judge.specs.Information.{fragmentAt, fragmentOf, onInformationHeaders, judgeList}
 use Rattle.judge.specs.declared.Verdict.{Verdict}
 use Rattle.judge.specs.declared.Verdict.the-variants.{Refused, Emergency, Aborted, Done, SegmentsFollow, Segment, Fragment, ReplyDue}
-use Rattle.judge.specs.declared.alarm.Alarm.the-variants.{Raised, Quiet}
 use Rattle.judge.specs.declared.chunk.Chunk.the-variants.{There, Missing}
 use Rattle.judge.specs.declared.headers.Headers.{Headers}
 use Rattle.judge.specs.declared.headers.HeadersRead.{HeadersRead}
@@ -48,7 +46,7 @@ there size from len =
 -- what holds of an SDO reply that is refused or raises an alarm
 pub record Alarming (P : Verdict → Type 0) : Type 0 where
   pub refused : P (Refused 0x20)
-  pub emergency : (code register : ℕ) → P (Emergency code register)
+  pub emergency : (code register five : ℕ) → P (Emergency code register five)
   pub aborted : (code index sub : ℕ) → P (Aborted code index sub)
   pub other : P (Refused 0x23)
 
@@ -63,30 +61,27 @@ module _ (P : Verdict → Type 0) where
 
   emergency-cases : (s : List ℕ) → Alarming P → P (emergencyIn s)
   unfolding emergencyIn
-  emergency-cases s a = either-way (ltb (length s) emergencyLeast) _ _ (a .refused) (a .emergency _ _)
+  emergency-cases s a = either-way (ltb (length s) emergencyLeast) _ _ (a .refused) (a .emergency _ _ _)
 
   abort-cases : (s : List ℕ) → Alarming P → P (abortIn s)
   unfolding abortIn
   abort-cases s a = either-way (ltb (length s) abortLeast) _ _ (a .refused) (a .aborted _ _ _)
 
-  alarm-tests : (b d : Bool) (s : List ℕ) (w : Verdict) → Alarming P → P w → P (unlessAlarm (pick b (Raised (emergencyIn s)) (pick d (Raised (abortIn s)) Quiet)) w)
-  alarm-tests true d s w a p = emergency-cases s a
-  alarm-tests false true s w a p = abort-cases s a
-  alarm-tests false false s w a p = p
+  order-cases : (s : List ℕ) (command : CoeCommand) (wrong : Bool) (own : Verdict) → Alarming P → P own → P (inOrder s command wrong own)
+  unfolding inOrder
+  order-cases s command wrong own a p =
+      either-way (eqb (commandNumber command) 4) _ _ (abort-cases s a) (either-way wrong _ _ (a .other) p)
 
-  alarm-cases : (s : List ℕ) (service : CoeService) (command : CoeCommand) (w : Verdict) → Alarming P → P w → P (unlessAlarm (alarmIn s service command) w)
-  unfolding alarmIn
-  alarm-cases s service command w = alarm-tests (eqb (serviceNumber service) 1) (eqb (commandNumber command) 4) s w
-
-  headers-cases : (q : HeadersRead) (f : Headers → Verdict) → P (Refused 0x20) → ((h : Headers) → P (f h)) → P (onHeaders q f)
-  headers-cases HeadersRead.Undecodable f p q = p
-  headers-cases (HeadersRead.Headers h) f p q = q h
+  headers-cases : (s : List ℕ) (q : HeadersRead) (f : Headers → Verdict) → Alarming P → ((h : Headers) → P (f h)) → P (onHeaders s q f)
+  headers-cases s HeadersRead.Undecodable f a p = a .refused
+  headers-cases s HeadersRead.Emergency f a p = emergency-cases s a
+  headers-cases s (HeadersRead.Headers h) f a p = p h
 
   reply-cases : (index sub : ℕ) (s : List ℕ) (f : Headers → Verdict) → Alarming P → ((h : Headers) → P (f h)) → P (replyTo index sub s f)
-  unfolding replyTo inOrder
+  unfolding replyTo
   reply-cases index sub s f a p =
-      headers-cases (readHeaders s) _ (a .refused) λ h.
-      alarm-cases s (h .service) (h .sdo .command) _ a (either-way (wrongAddress h index sub) _ _ (a .other) (p h))
+      headers-cases s (readHeaders s) _ a λ h.
+      order-cases s (h .sdo .command) (wrongAddress h index sub) _ a (p h)
 
   download-rule : (size : ℕ) → Alarming P → P (Done 0 0) → P (downloadOf size)
   unfolding downloadOf
@@ -144,17 +139,18 @@ module _ (P : Verdict → Type 0) where
         either-way (ltb (h .mailbox .length) 3) _ _ short
         (chunk-cases (length s) segmentAt len earlier n _ missing (p segmentAt len (h .segment .«is_last_segment»)))
 
-    segment-headers : (q : SegmentHeadersRead) (f : SegmentHeaders → Verdict) → P (Refused 0x20) → ((h : SegmentHeaders) → P (f h)) → P (onSegmentHeaders q f)
-    segment-headers SegmentHeadersRead.Undecodable f p q = p
-    segment-headers (SegmentHeadersRead.Headers h) f p q = q h
+    segment-headers : (q : SegmentHeadersRead) (f : SegmentHeaders → Verdict) → Alarming P → ((h : SegmentHeaders) → P (f h)) → P (onSegmentHeaders s q f)
+    segment-headers SegmentHeadersRead.Undecodable f a p = a .refused
+    segment-headers SegmentHeadersRead.Emergency f a p = emergency-cases s a
+    segment-headers (SegmentHeadersRead.Headers h) f a p = p h
 
     pub segment-cases : Alarming P
         → ((from len : ℕ) (last : Bool) → len ≤ length s - from → earlier + len ≤ n → P (Segment from len (earlier + len) last))
         → P (judgeSegment earlier n s)
-    unfolding judgeSegment inOrder
+    unfolding judgeSegment
     segment-cases a p =
-        segment-headers (readSegmentHeaders s) _ (a .refused) λ h.
-        alarm-cases s (h .service) (h .segment .command) _ a (either-way (wrongType (h .mailbox)) _ _ (a .other) (segment-rule h p))
+        segment-headers (readSegmentHeaders s) _ a λ h.
+        order-cases s (h .segment .command) (wrongType (h .mailbox)) _ a (segment-rule h p)
 
     pub fragment-rule : (h : InformationHeaders) (from : ℕ)
         → ((from len : ℕ) (last : Bool) → len ≤ length s - from → earlier + len ≤ n → P (Fragment from len (earlier + len) last))

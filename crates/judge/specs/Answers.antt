@@ -11,21 +11,22 @@ use Rattle.judge.specs.declared.Answer.{Answer}
 
 -- a number that no value goes with
 abbrev pub plainOf : ℕ → Answer
-plainOf n = record { number = n; sub = 0; index = 0; code = 0; length = 0 }
+plainOf n = record { number = n; sub = 0; index = 0; code = 0; length = 0; «data» = 0 }
 
 -- "00: done, payload length P"
 abbrev pub doneWith : ℕ → Answer
-doneWith p = record { number = 0x00; sub = 0; index = 0; code = 0; length = p }
+doneWith p = record { number = 0x00; sub = 0; index = 0; code = 0; length = p; «data» = 0 }
 
 -- "After the last, P is the sum of chunks."
 abbrev pub doneOr : Bool → ℕ → ℕ → Answer
 doneOr last sum n = pick last (doneWith sum) (plainOf n)
 
--- "21 emergency: code, register"; "22 aborted: code, index, sub-index"; "01, 02 request due, reply due"
+-- "21 emergency: code, register"; document 02, [5]: "Answer 21 now also hands back the five bytes"; "22 aborted: code, index, sub-index";
+-- "01, 02 request due, reply due"
 unfoldable pub answerOf : Verdict → Answer
 answerOf (Refused n) = plainOf n
-answerOf (Emergency code register) = record { number = 0x21; sub = register; index = 0; code = code; length = 0 }
-answerOf (Aborted code index sub) = record { number = 0x22; sub = sub; index = index; code = code; length = 0 }
+answerOf (Emergency code register five) = record { number = 0x21; sub = register; index = 0; code = code; length = 0; «data» = five }
+answerOf (Aborted code index sub) = record { number = 0x22; sub = sub; index = index; code = code; length = 0; «data» = 0 }
 answerOf (Done from p) = doneWith p
 answerOf SegmentsFollow = plainOf 0x01
 answerOf (Segment from len sum last) = doneOr last sum 0x01

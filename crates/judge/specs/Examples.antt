@@ -1,4 +1,4 @@
--- The (P) examples of document 01 that speak of replies, those of request [1] of document 02, and one for each number and rule, as one
+-- The (P) examples of document 01 that speak of replies, those of requests [1] and [5] of document 02, and one for each number and rule, as one
 -- list: what is judged, and what is to come out, the answer and the whole data buffer. One statement says of all of them that the two are
 -- the same; antt computes it. Assumes nothing.
 use mathlib.Core.Path.{_≡_, refl}
@@ -11,8 +11,8 @@ use Rattle.wire.specs.Fields.{read}
 use Rattle.mailbox.specs.Numbers.{priorityOf, typeOf, serviceOf, commandOf, operationOf}
 use Rattle.mailbox.specs.Headers.{readMailboxHeader, readCoeHeader, readSdoHeader, readSegmented, readSdoInfo}
 use Rattle.judge.specs.Answers.{plainOf, doneWith, answerOf}
-use Rattle.judge.specs.Headers.{readHeaders, readSegmentHeaders, readInformationHeaders, wrongType, wrongAddress}
-use Rattle.judge.specs.Alarm.{emergencyIn, abortIn, alarmIn}
+use Rattle.judge.specs.Headers.{readFront, readHeaders, readSegmentHeaders, readInformationHeaders, wrongType, wrongAddress}
+use Rattle.judge.specs.Alarm.{emergencyIn, abortIn}
 use Rattle.judge.specs.Chunk.{lacking, chunkAt}
 use Rattle.judge.specs.Reply.{inOrder, replyTo}
 use Rattle.judge.specs.Download.{downloadOf, judgeDownload}
@@ -51,11 +51,11 @@ segments n before s = lastIn bySegments (after bySegments (fresh (blank n)) befo
 abbrev pub fragments : ℕ → List (List ℕ) → List ℕ → Shown
 fragments n before s = lastIn byFragments (after byFragments (fresh (blank n)) before) s
 
-abbrev pub emergencyWith : ℕ → ℕ → Answer
-emergencyWith code register = record { number = 0x21; sub = register; index = 0; code = code; length = 0 }
+abbrev pub emergencyWith : ℕ → ℕ → ℕ → Answer
+emergencyWith code register five = record { number = 0x21; sub = register; index = 0; code = code; length = 0; «data» = five }
 
 abbrev pub abortedWith : ℕ → ℕ → ℕ → Answer
-abortedWith code index sub = record { number = 0x22; sub = sub; index = index; code = code; length = 0 }
+abortedWith code index sub = record { number = 0x22; sub = sub; index = index; code = code; length = 0; «data» = 0 }
 
 -- segments: 7 bytes of which 2 are unused; 6 bytes with an unused count that plays no part; the same as the last
 abbrev pub five : List ℕ
@@ -66,6 +66,9 @@ six = hex 15 0x090000000013003016111213141516
 
 abbrev pub lastSix : List ℕ
 lastSix = hex 15 0x090000000013003017111213141516
+
+abbrev pub overtemperature : List ℕ
+overtemperature = hex 16 0x0a000000001300101042080102030405
 
 -- of a list: the first reply, incomplete; a later one, complete; and one of operation 7
 abbrev pub firstFragment : List ℕ
@@ -132,11 +135,22 @@ examples =
     -- a segment's bytes that are not there, and that do not fit behind the earlier ones
     ∷ (segments 18 [] (hex 14 0x0900000000130030161112131415), (plainOf 0x25, blank 18))
     ∷ (segments 16 (five ∷ six ∷ []) lastSix, (plainOf 0x25, hex 16 0x0102030405111213141516eeeeeeeeee))
-    -- service 1: code at 12-13, register at 14, before type and abort; 19 bytes are 20
-    ∷ (upload 4 (hex 20 0x0a00000000140010801810013412560000000000), (emergencyWith 0x1234 0x56, blank 4))
-    ∷ (upload 4 (hex 19 0x0a000000001300104018100134125600000000), (plainOf 0x20, blank 4))
-    ∷ (segments 4 [] (hex 20 0x0a00000000130010001810013412560000000000), (emergencyWith 0x1234 0x56, blank 4))
-    ∷ (segments 4 [] (hex 19 0x0a000000001300100018100134125600000000), (plainOf 0x20, blank 4))
+    -- document 02, [5]: "A drive's overtemperature message": code 0x4210, register 8, and five bytes
+    ∷ (upload 4 overtemperature, (emergencyWith 0x4210 8 0x0504030201, blank 4))
+    ∷ (download 4 overtemperature, (emergencyWith 0x4210 8 0x0504030201, blank 4))
+    ∷ (segments 4 [] overtemperature, (emergencyWith 0x4210 8 0x0504030201, blank 4))
+    -- "the header reading must not judge byte 8 when the service is 1": an abort's specifier, an unlisted one; before the type, which is
+    -- listed and not 3; an unlisted type is 20
+    ∷ (upload 4 (hex 16 0x0a0000000014001080125600000000ff), (emergencyWith 0x1280 0x56 0xff00000000, blank 4))
+    ∷ (download 4 (hex 16 0x0a00000000130010a1ff800000000001), (emergencyWith 0xffa1 0x80 0x0100000000, blank 4))
+    ∷ (segments 4 [] (hex 16 0x0a00000000150010ff000001000000ff), (emergencyWith 0x00ff 0 0xff00000001, blank 4))
+    ∷ (upload 4 (hex 16 0x0a000000001600101042080102030405), (plainOf 0x20, blank 4))
+    ∷ (segments 4 [] (hex 16 0x0a000000001600101042080102030405), (plainOf 0x20, blank 4))
+    -- "An emergency under 16 bytes is 20"; the length field and bytes past 15 are not looked at
+    ∷ (upload 4 (hex 15 0x0a0000000013001010420801020304), (plainOf 0x20, blank 4))
+    ∷ (download 4 (hex 15 0x0a0000000013001010420801020304), (plainOf 0x20, blank 4))
+    ∷ (segments 4 [] (hex 15 0x0a0000000013001010420801020304), (plainOf 0x20, blank 4))
+    ∷ (upload 4 (hex 20 0x0000000000130010104208010203040511121314), (emergencyWith 0x4210 8 0x0504030201, blank 4))
     -- specifier 4: code at 12-15, the reply's own index and sub-index, before the type; 15 bytes are 20
     ∷ (upload 4 (hex 16 0x0a000000001400308000200300000206), (abortedWith 0x06020000 0x2000 3, blank 4))
     ∷ (download 4 (hex 16 0x0a000000001300308000200300000206), (abortedWith 0x06020000 0x2000 3, blank 4))
@@ -171,5 +185,5 @@ examples =
     ∷ []
 
 pub examples-hold : map (λ (e : Example). e .0) examples ≡ map (λ (e : Example). e .1) examples
-unfolding read priorityOf typeOf serviceOf commandOf operationOf readMailboxHeader readCoeHeader readSdoHeader readSegmented readSdoInfo answerOf readHeaders readSegmentHeaders readInformationHeaders wrongType wrongAddress emergencyIn abortIn alarmIn lacking chunkAt inOrder replyTo downloadOf judgeDownload expeditedOf wholeOf normalOf uploadOf judgeUpload chunkLength segmentOf judgeSegment fragmentAt fragmentOf judgeList stored
+unfolding read priorityOf typeOf serviceOf commandOf operationOf readMailboxHeader readCoeHeader readSdoHeader readSegmented readSdoInfo answerOf readFront readHeaders readSegmentHeaders readInformationHeaders wrongType wrongAddress emergencyIn abortIn lacking chunkAt inOrder replyTo downloadOf judgeDownload expeditedOf wholeOf normalOf uploadOf judgeUpload chunkLength segmentOf judgeSegment fragmentAt fragmentOf judgeList stored
 examples-hold = refl

@@ -5,7 +5,7 @@ use Prim.Native.Nat.{ℕ}
 use lib.Dec.{ltb, eqb}
 use lib.ListN.{length}
 use Rattle.wire.specs.Words.{pick, either}
-use Rattle.mailbox.specs.Numbers.{typeNumber}
+use Rattle.mailbox.specs.Numbers.{typeNumber, serviceNumber}
 use Rattle.mailbox.specs.Headers.{readMailboxHeader, readCoeHeader, readSdoHeader, readSegmented, readSdoInfo}
 use Rattle.mailbox.specs.declared.MailboxHeader.{MailboxHeader}
 use Rattle.mailbox.specs.declared.outcome.MailboxHeaderRead.{MailboxHeaderRead}
@@ -22,7 +22,10 @@ use Rattle.mailbox.specs.declared.outcome.SdoHeaderSegmentedRead.the-variants a
 use Rattle.mailbox.specs.declared.information.SdoInfoHeader.{SdoInfoHeader}
 use Rattle.mailbox.specs.declared.outcome.SdoInfoHeaderRead.{SdoInfoHeaderRead}
 use Rattle.mailbox.specs.declared.outcome.SdoInfoHeaderRead.the-variants as SdoInfoHeaderRead
-use Rattle.judge.specs.Places.{segmentLeast}
+use Rattle.judge.specs.Places.{sdoLeast, segmentLeast}
+use Rattle.judge.specs.declared.headers.Front.{Front}
+use Rattle.judge.specs.declared.headers.FrontRead.{FrontRead}
+use Rattle.judge.specs.declared.headers.FrontRead.the-variants as FrontRead
 use Rattle.judge.specs.declared.headers.Headers.{Headers}
 use Rattle.judge.specs.declared.headers.HeadersRead.{HeadersRead}
 use Rattle.judge.specs.declared.headers.HeadersRead.the-variants as HeadersRead
@@ -52,22 +55,34 @@ abbrev pub onInfo : {A : Type 0} → SdoInfoHeaderRead → A → (SdoInfoHeader 
 onInfo SdoInfoHeaderRead.Undecodable none f = none
 onInfo (SdoInfoHeaderRead.Header h) none f = f h
 
+-- what stands before byte 8 of a reply that must have so many bytes; document 02, [5]: "the header reading must not judge byte 8 when
+-- the service is 1, and all that use it follow"
+unfoldable pub readFront : ℕ → List ℕ → FrontRead
+readFront least s =
+    pick (ltb (length s) least) FrontRead.Undecodable
+    (onMailbox (readMailboxHeader s) FrontRead.Undecodable λ m.
+    onCoe (readCoeHeader s) FrontRead.Undecodable λ c.
+    pick (eqb (serviceNumber (c .service)) 1) FrontRead.Emergency
+    (FrontRead.Front (record { mailbox = m; service = c .service })))
+
+abbrev pub onFront : {A : Type 0} → FrontRead → A → A → (Front → A) → A
+onFront FrontRead.Undecodable none emergency f = none
+onFront FrontRead.Emergency none emergency f = emergency
+onFront (FrontRead.Front h) none emergency f = f h
+
 -- "Under 12 bytes, or an unlisted type, service or specifier: 20."
 unfoldable pub readHeaders : List ℕ → HeadersRead
 readHeaders s =
-    onMailbox (readMailboxHeader s) HeadersRead.Undecodable λ m.
-    onCoe (readCoeHeader s) HeadersRead.Undecodable λ c.
+    onFront (readFront sdoLeast s) HeadersRead.Undecodable HeadersRead.Emergency λ h.
     onSdo (readSdoHeader s) HeadersRead.Undecodable λ d.
-    HeadersRead.Headers (record { mailbox = m; service = c .service; sdo = d })
+    HeadersRead.Headers (record { mailbox = h .mailbox; service = h .service; sdo = d })
 
 -- the same of a segment, whose byte 8 is its whole header; document 02, [1]: "20 now starts below 9 bytes there"
 unfoldable pub readSegmentHeaders : List ℕ → SegmentHeadersRead
 readSegmentHeaders s =
-    pick (ltb (length s) segmentLeast) SegmentHeadersRead.Undecodable
-    (onMailbox (readMailboxHeader s) SegmentHeadersRead.Undecodable λ m.
-    onCoe (readCoeHeader s) SegmentHeadersRead.Undecodable λ c.
+    onFront (readFront segmentLeast s) SegmentHeadersRead.Undecodable SegmentHeadersRead.Emergency λ h.
     onSegmented (readSegmented s) SegmentHeadersRead.Undecodable λ g.
-    SegmentHeadersRead.Headers (record { mailbox = m; service = c .service; segment = g }))
+    SegmentHeadersRead.Headers (record { mailbox = h .mailbox; service = h .service; segment = g })
 
 -- "Information replies: .. Under 12 bytes or an unlisted type, service or operation: 20."
 unfoldable pub readInformationHeaders : List ℕ → InformationHeadersRead

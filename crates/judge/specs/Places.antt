@@ -2,7 +2,7 @@
 -- Assumes nothing.
 use Prim.Native.Nat.{ℕ, _/_}
 use Rattle.wire.specs.Fields.{end}
-use Rattle.mailbox.specs.Fields.{Name, place, listKind, fragmentsLeft, expeditedData, completeSize, abortCode}
+use Rattle.mailbox.specs.Fields.{Name, place, listKind, fragmentsLeft, expeditedData, completeSize, abortCode, emergencyData}
 
 -- the byte at which a field of the table begins, and the byte behind it
 abbrev pub startOf : Name → ℕ
@@ -11,9 +11,13 @@ startOf f = place f .first / 8
 abbrev pub behind : Name → ℕ
 behind f = end (place f) / 8
 
--- "Service 1: under 20 bytes is 20"
+-- "Under 12 bytes .. 20."
+abbrev pub sdoLeast : ℕ
+sdoLeast = 12
+
+-- document 02, [5]: "An emergency under 16 bytes is 20"
 abbrev pub emergencyLeast : ℕ
-emergencyLeast = 20
+emergencyLeast = behind emergencyData
 
 -- "Specifier 4: under 16 bytes is 20; else 22, code at 12-15."
 abbrev pub abortLeast : ℕ

@@ -6,7 +6,7 @@ use lib.ListN.{length}
 use Rattle.wire.specs.Words.{pick}
 use Rattle.judge.specs.Places.{segmentAt}
 use Rattle.judge.specs.Headers.{readSegmentHeaders, wrongType}
-use Rattle.judge.specs.Alarm.{alarmIn}
+use Rattle.judge.specs.Alarm.{emergencyIn}
 use Rattle.judge.specs.Reply.{inOrder}
 use Rattle.judge.specs.Chunk.{chunkAt, onChunk}
 use Rattle.judge.specs.declared.Verdict.{Verdict}
@@ -27,12 +27,13 @@ segmentOf size h earlier n =
     (onChunk (chunkAt size segmentAt (chunkLength (h .mailbox .length) (h .segment .«segment_data_size»)) earlier n) λ sum.
     Segment segmentAt (chunkLength (h .mailbox .length) (h .segment .«segment_data_size»)) sum (h .segment .«is_last_segment»))
 
-abbrev pub onSegmentHeaders : SegmentHeadersRead → (SegmentHeaders → Verdict) → Verdict
-onSegmentHeaders SegmentHeadersRead.Undecodable f = Refused 0x20
-onSegmentHeaders (SegmentHeadersRead.Headers h) f = f h
+abbrev pub onSegmentHeaders : List ℕ → SegmentHeadersRead → (SegmentHeaders → Verdict) → Verdict
+onSegmentHeaders s SegmentHeadersRead.Undecodable f = Refused 0x20
+onSegmentHeaders s SegmentHeadersRead.Emergency f = emergencyIn s
+onSegmentHeaders s (SegmentHeadersRead.Headers h) f = f h
 
 -- rules 1 to 4: "Type not 3, or (not for segments) index or sub-index not the request's: 23."
 unfoldable pub judgeSegment : ℕ → ℕ → List ℕ → Verdict
 judgeSegment earlier n s =
-    onSegmentHeaders (readSegmentHeaders s) λ h.
-    inOrder (alarmIn s (h .service) (h .segment .command)) (wrongType (h .mailbox)) (segmentOf (length s) h earlier n)
+    onSegmentHeaders s (readSegmentHeaders s) λ h.
+    inOrder s (h .segment .command) (wrongType (h .mailbox)) (segmentOf (length s) h earlier n)

@@ -8,7 +8,7 @@ use Rattle.judge.specs.declared.Verdict.the-variants.{Refused, Emergency
 -- the bytes of the reply that a verdict takes
 abbrev pub taken : Verdict → List ℕ → List ℕ
 taken (Refused n) s = []
-taken (Emergency code register) s = []
+taken (Emergency code register five) s = []
 taken (Aborted code index sub) s = []
 taken (Done from p) s = part s from p
 taken SegmentsFollow s = []

@@ -1,7 +1,7 @@
 // The reply to a download.
 use crate::Verdict;
-use crate::alarm::Alarm;
-use crate::alarm::alarm_in;
+use crate::alarm::abort;
+use crate::alarm::emergency;
 use crate::headers::HeadersRead;
 use crate::headers::read_headers;
 use crate::headers::wrong_address;
@@ -22,17 +22,20 @@ fn download(size: usize) -> Verdict
 pub fn judge_download(s: &[u8], index: u16, sub: u8) -> Verdict
     ensures { λ r. ⌜ r ≡ judgeDownload index sub (now (s .entry)) ⌝ }
 {
-    let HeadersRead::Headers(h) = read_headers(s) else {
-        return Verdict::Refused(0x20);
-    };
-    let service = h.service;
-    let sdo = h.sdo;
-    let command = sdo.command;
-    if let Alarm::Raised(verdict) = alarm_in(s, service, command) {
-        return verdict;
+    let read = read_headers(s);
+    match read {
+        HeadersRead::Undecodable => Verdict::Refused(0x20),
+        HeadersRead::Emergency => emergency(s),
+        HeadersRead::Headers(h) => {
+            let sdo = h.sdo;
+            let command = sdo.command;
+            if command.number() == 4 {
+                return abort(s);
+            }
+            if wrong_address(h, index, sub) {
+                return Verdict::Refused(0x23);
+            }
+            download(s.len())
+        }
     }
-    if wrong_address(h, index, sub) {
-        return Verdict::Refused(0x23);
-    }
-    download(s.len())
 }

@@ -13,7 +13,40 @@ use mailbox::outcome::SdoInfoHeaderRead;
 use mailbox::sdo::SdoHeader;
 use mailbox::segment::SdoHeaderSegmented;
 ghost use mathlib.Core.Path.{_≡_};
-ghost use Rattle.judge.specs.Headers.{readHeaders, readSegmentHeaders, readInformationHeaders, wrongType, wrongAddress};
+ghost use Rattle.judge.specs.Headers.{readFront, readHeaders, readSegmentHeaders, readInformationHeaders, wrongType, wrongAddress};
+
+// What stands before byte 8.
+pub struct Front {
+    pub mailbox: MailboxHeader,
+    pub service: CoeService,
+}
+
+pub enum FrontRead {
+    Front(Front),
+    // Service 1: no SDO header follows.
+    Emergency,
+    Undecodable,
+}
+
+// Of a reply that must have `least` bytes.
+fn read_front(s: &[u8], least: usize) -> FrontRead
+    ensures { λ r. ⌜ r ≡ readFront least (now (s .entry)) ⌝ }
+{
+    if s.len() < least {
+        return FrontRead::Undecodable;
+    }
+    let MailboxHeaderRead::Header(mailbox) = MailboxHeader::unpack(s) else {
+        return FrontRead::Undecodable;
+    };
+    let CoeHeaderRead::Header(header) = CoeHeader::unpack(s) else {
+        return FrontRead::Undecodable;
+    };
+    let service = header.service;
+    if service.number() == 1 {
+        return FrontRead::Emergency;
+    }
+    FrontRead::Front(Front { mailbox, service })
+}
 
 pub struct Headers {
     pub mailbox: MailboxHeader,
@@ -23,6 +56,7 @@ pub struct Headers {
 
 pub enum HeadersRead {
     Headers(Headers),
+    Emergency,
     Undecodable,
 }
 
@@ -30,24 +64,23 @@ pub enum HeadersRead {
 pub(crate) fn read_headers(s: &[u8]) -> HeadersRead
     ensures { λ r. ⌜ r ≡ readHeaders (now (s .entry)) ⌝ }
 {
-    if s.len() < SDO_LEAST {
-        return HeadersRead::Undecodable;
+    let read = read_front(s, SDO_LEAST);
+    match read {
+        FrontRead::Undecodable => HeadersRead::Undecodable,
+        FrontRead::Emergency => HeadersRead::Emergency,
+        FrontRead::Front(front) => {
+            let SdoHeaderRead::Header(sdo) = SdoHeader::unpack(s) else {
+                return HeadersRead::Undecodable;
+            };
+            let mailbox = front.mailbox;
+            let service = front.service;
+            HeadersRead::Headers(Headers {
+                mailbox,
+                service,
+                sdo,
+            })
+        }
     }
-    let MailboxHeaderRead::Header(mailbox) = MailboxHeader::unpack(s) else {
-        return HeadersRead::Undecodable;
-    };
-    let CoeHeaderRead::Header(header) = CoeHeader::unpack(s) else {
-        return HeadersRead::Undecodable;
-    };
-    let SdoHeaderRead::Header(sdo) = SdoHeader::unpack(s) else {
-        return HeadersRead::Undecodable;
-    };
-    let service = header.service;
-    HeadersRead::Headers(Headers {
-        mailbox,
-        service,
-        sdo,
-    })
 }
 
 pub struct SegmentHeaders {
@@ -58,6 +91,7 @@ pub struct SegmentHeaders {
 
 pub enum SegmentHeadersRead {
     Headers(SegmentHeaders),
+    Emergency,
     Undecodable,
 }
 
@@ -65,24 +99,23 @@ pub enum SegmentHeadersRead {
 pub(crate) fn read_segment_headers(s: &[u8]) -> SegmentHeadersRead
     ensures { λ r. ⌜ r ≡ readSegmentHeaders (now (s .entry)) ⌝ }
 {
-    if s.len() < SEGMENT_LEAST {
-        return SegmentHeadersRead::Undecodable;
+    let read = read_front(s, SEGMENT_LEAST);
+    match read {
+        FrontRead::Undecodable => SegmentHeadersRead::Undecodable,
+        FrontRead::Emergency => SegmentHeadersRead::Emergency,
+        FrontRead::Front(front) => {
+            let SdoHeaderSegmentedRead::Header(segment) = SdoHeaderSegmented::unpack(s) else {
+                return SegmentHeadersRead::Undecodable;
+            };
+            let mailbox = front.mailbox;
+            let service = front.service;
+            SegmentHeadersRead::Headers(SegmentHeaders {
+                mailbox,
+                service,
+                segment,
+            })
+        }
     }
-    let MailboxHeaderRead::Header(mailbox) = MailboxHeader::unpack(s) else {
-        return SegmentHeadersRead::Undecodable;
-    };
-    let CoeHeaderRead::Header(header) = CoeHeader::unpack(s) else {
-        return SegmentHeadersRead::Undecodable;
-    };
-    let SdoHeaderSegmentedRead::Header(segment) = SdoHeaderSegmented::unpack(s) else {
-        return SegmentHeadersRead::Undecodable;
-    };
-    let service = header.service;
-    SegmentHeadersRead::Headers(SegmentHeaders {
-        mailbox,
-        service,
-        segment,
-    })
 }
 
 pub struct InformationHeaders {

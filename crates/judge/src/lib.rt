@@ -23,9 +23,11 @@ pub use upload::judge_upload;
 // A chunk is the reply's len bytes from byte `from` on; sum is the earlier chunks and this one.
 pub enum Verdict {
     Refused(u8),
+    // data: five bytes as one number, the first lowest.
     Emergency {
         code: u16,
         register: u8,
+        data: u64,
     },
     Aborted {
         code: u32,
@@ -60,6 +62,7 @@ pub struct Answer {
     pub index: u16,
     pub code: u32,
     pub length: u32,
+    pub data: u64,
 }
 
 // An answer of a number alone.
@@ -72,6 +75,7 @@ pub fn plain(number: u8) -> Answer
         index: 0,
         code: 0,
         length: 0,
+        data: 0,
     }
 }
 
@@ -84,6 +88,7 @@ fn done(length: u32) -> Answer
         index: 0,
         code: 0,
         length,
+        data: 0,
     }
 }
 
@@ -100,12 +105,17 @@ pub fn answer_of(verdict: Verdict) -> Answer
 {
     match verdict {
         Verdict::Refused(number) => plain(number),
-        Verdict::Emergency { code, register } => Answer {
+        Verdict::Emergency {
+            code,
+            register,
+            data,
+        } => Answer {
             number: 0x21,
             sub: register,
             index: 0,
             code: code as u32,
             length: 0,
+            data,
         },
         Verdict::Aborted { code, index, sub } => Answer {
             number: 0x22,
@@ -113,6 +123,7 @@ pub fn answer_of(verdict: Verdict) -> Answer
             index,
             code,
             length: 0,
+            data: 0,
         },
         Verdict::Done { from: _, len } => done(len as u32),
         Verdict::SegmentsFollow => plain(0x01),

@@ -1,7 +1,7 @@
 // The reply to the request for a segment.
 use crate::Verdict;
-use crate::alarm::Alarm;
-use crate::alarm::alarm_in;
+use crate::alarm::abort;
+use crate::alarm::emergency;
 use crate::chunk::Chunk;
 use crate::chunk::chunk_at;
 use crate::chunk::less;
@@ -46,18 +46,21 @@ fn segment(size: usize, h: SegmentHeaders, earlier: u32, n: u32) -> Verdict
 pub fn judge_segment(s: &[u8], earlier: u32, n: u32) -> Verdict
     ensures { λ r. ⌜ r ≡ judgeSegment earlier n (now (s .entry)) ⌝ }
 {
-    let SegmentHeadersRead::Headers(h) = read_segment_headers(s) else {
-        return Verdict::Refused(0x20);
-    };
-    let service = h.service;
-    let header = h.segment;
-    let command = header.command;
-    if let Alarm::Raised(verdict) = alarm_in(s, service, command) {
-        return verdict;
+    let read = read_segment_headers(s);
+    match read {
+        SegmentHeadersRead::Undecodable => Verdict::Refused(0x20),
+        SegmentHeadersRead::Emergency => emergency(s),
+        SegmentHeadersRead::Headers(h) => {
+            let header = h.segment;
+            let command = header.command;
+            if command.number() == 4 {
+                return abort(s);
+            }
+            let mailbox = h.mailbox;
+            if wrong_type(mailbox) {
+                return Verdict::Refused(0x23);
+            }
+            segment(s.len(), h, earlier, n)
+        }
     }
-    let mailbox = h.mailbox;
-    if wrong_type(mailbox) {
-        return Verdict::Refused(0x23);
-    }
-    segment(s.len(), h, earlier, n)
 }

@@ -12,6 +12,7 @@ pub fn store(verdict: Verdict, s: &[u8], buffer: &mut [u8], at: usize)
         Verdict::Emergency {
             code: _,
             register: _,
+            data: _,
         } => {}
         Verdict::Aborted {
             code: _,

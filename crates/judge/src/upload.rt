@@ -1,7 +1,7 @@
 // The first reply to an upload: expedited, normal, or the beginning of segments.
 use crate::Verdict;
-use crate::alarm::Alarm;
-use crate::alarm::alarm_in;
+use crate::alarm::abort;
+use crate::alarm::emergency;
 use crate::chunk::lacks;
 use crate::chunk::less;
 use crate::headers::Headers;
@@ -73,17 +73,20 @@ fn upload(s: &[u8], h: Headers, n: u32) -> Verdict
 pub fn judge_upload(s: &[u8], index: u16, sub: u8, n: u32) -> Verdict
     ensures { λ r. ⌜ r ≡ judgeUpload index sub n (now (s .entry)) ⌝ }
 {
-    let HeadersRead::Headers(h) = read_headers(s) else {
-        return Verdict::Refused(0x20);
-    };
-    let service = h.service;
-    let sdo = h.sdo;
-    let command = sdo.command;
-    if let Alarm::Raised(verdict) = alarm_in(s, service, command) {
-        return verdict;
+    let read = read_headers(s);
+    match read {
+        HeadersRead::Undecodable => Verdict::Refused(0x20),
+        HeadersRead::Emergency => emergency(s),
+        HeadersRead::Headers(h) => {
+            let sdo = h.sdo;
+            let command = sdo.command;
+            if command.number() == 4 {
+                return abort(s);
+            }
+            if wrong_address(h, index, sub) {
+                return Verdict::Refused(0x23);
+            }
+            upload(s, h, n)
+        }
     }
-    if wrong_address(h, index, sub) {
-        return Verdict::Refused(0x23);
-    }
-    upload(s, h, n)
 }

@@ -8,8 +8,8 @@ use Rattle.wire.specs.Fields.{read}
 use Rattle.mailbox.specs.Numbers.{priorityOf, typeOf, serviceOf, commandOf, operationOf}
 use Rattle.mailbox.specs.Headers.{readMailboxHeader, readCoeHeader, readSdoHeader, readSegmented, readSdoInfo}
 use Rattle.judge.specs.Answers.{plainOf, doneWith, answerOf}
-use Rattle.judge.specs.Headers.{readHeaders, readSegmentHeaders, readInformationHeaders, wrongType, wrongAddress}
-use Rattle.judge.specs.Alarm.{emergencyIn, abortIn, alarmIn}
+use Rattle.judge.specs.Headers.{readFront, readHeaders, readSegmentHeaders, readInformationHeaders, wrongType, wrongAddress}
+use Rattle.judge.specs.Alarm.{emergencyIn, abortIn}
 use Rattle.judge.specs.Chunk.{lacking, chunkAt}
 use Rattle.judge.specs.Reply.{inOrder, replyTo}
 use Rattle.judge.specs.Download.{downloadOf, judgeDownload}
@@ -17,7 +17,7 @@ use Rattle.judge.specs.Upload.{expeditedOf, wholeOf, normalOf, uploadOf, judgeU
 use Rattle.judge.specs.Segment.{chunkLength, segmentOf, judgeSegment}
 use Rattle.judge.specs.Information.{fragmentAt, fragmentOf, judgeList}
 use Rattle.judge.specs.Storage.{stored}
-use Rattle.judge.specs.Examples.{Shown, blank}
+use Rattle.judge.specs.Examples.{Shown, blank, emergencyWith, overtemperature}
 use Rattle.linked.specs.Judging.{unjudged, verdictFor, placeFor, begunBy, toldOf, wentOn, rulingFor, givenBy}
 
 -- 0x1018:01 is asked for, and a buffer of 6 bytes 0xee is lent
@@ -40,11 +40,17 @@ examples =
     -- an operation other than 2: the list has begun where it had before
     ∷ (answered 4 0 (hex 12 0x0a0000000013008003000000), (wentOn 0x02 0 0, blank 6))
     ∷ (answered 8 2 (hex 12 0x0a0000000013008003000000), (wentOn 0x02 1 0, blank 6))
+    -- document 02, [5]: an emergency's code, register and five bytes, whatever was asked; a list takes service 1 as any other
+    ∷ (answered 1 0 overtemperature, (emergencyWith 0x4210 8 0x0504030201, blank 6))
+    ∷ (answered 3 0 overtemperature, (emergencyWith 0x4210 8 0x0504030201, blank 6))
+    ∷ (answered 7 2 overtemperature, (emergencyWith 0x4210 8 0x0504030201, blank 6))
+    ∷ (answered 8 2 (hex 14 0x0a00000000130010020000001122), (doneWith 4, hex 6 0xeeee1122eeee))
     -- refusals
+    ∷ (answered 7 2 (hex 15 0x0a0000000013001010420801020304), (plainOf 0x20, blank 6))
     ∷ (answered 2 0 (hex 14 0x0a000000001300304b181001aabb), (plainOf 0x15, blank 6))
     ∷ (answered 7 5 (hex 11 0x050000000013003000aabb), (plainOf 0x25, blank 6))
     ∷ []
 
 pub examples-hold : map (λ (e : Shown × Shown). e .0) examples ≡ map (λ (e : Shown × Shown). e .1) examples
-unfolding read priorityOf typeOf serviceOf commandOf operationOf readMailboxHeader readCoeHeader readSdoHeader readSegmented readSdoInfo answerOf readHeaders readSegmentHeaders readInformationHeaders wrongType wrongAddress emergencyIn abortIn alarmIn lacking chunkAt inOrder replyTo downloadOf judgeDownload expeditedOf wholeOf normalOf uploadOf judgeUpload chunkLength segmentOf judgeSegment fragmentAt fragmentOf judgeList stored unjudged verdictFor placeFor begunBy toldOf rulingFor
+unfolding read priorityOf typeOf serviceOf commandOf operationOf readMailboxHeader readCoeHeader readSdoHeader readSegmented readSdoInfo answerOf readFront readHeaders readSegmentHeaders readInformationHeaders wrongType wrongAddress emergencyIn abortIn lacking chunkAt inOrder replyTo downloadOf judgeDownload expeditedOf wholeOf normalOf uploadOf judgeUpload chunkLength segmentOf judgeSegment fragmentAt fragmentOf judgeList stored unjudged verdictFor placeFor begunBy toldOf rulingFor
 examples-hold = refl

@@ -44,7 +44,7 @@ placeFor kind earlier =
 -- ---- the answer: as the desk's, and where more replies follow this reply's chunk, and 1 once a list has begun
 
 abbrev pub wentOn : ℕ → ℕ → ℕ → Answer
-wentOn number begun len = record { number = number; sub = begun; index = 0; code = 0; length = len }
+wentOn number begun len = record { number = number; sub = begun; index = 0; code = 0; length = len; «data» = 0 }
 
 abbrev pub goesOn : Bool → Answer → ℕ → ℕ → ℕ → Answer
 goesOn last answer number begun len = pick last answer (wentOn number begun len)
@@ -54,7 +54,7 @@ begunBy kind = pick (eqb kind 8) 1 0
 
 unfoldable pub toldOf : ℕ → Verdict → Answer
 toldOf kind (Refused n) = answerOf (Refused n)
-toldOf kind (Emergency code register) = answerOf (Emergency code register)
+toldOf kind (Emergency code register five) = answerOf (Emergency code register five)
 toldOf kind (Aborted code index sub) = answerOf (Aborted code index sub)
 toldOf kind (Done from p) = answerOf (Done from p)
 toldOf kind SegmentsFollow = answerOf SegmentsFollow

@@ -65,6 +65,7 @@ fn went_on(number: u8, begun: u8, len: u16) -> Answer
         index: 0,
         code: 0,
         length: len as u32,
+        data: 0,
     }
 }
 
@@ -95,6 +96,7 @@ fn told_of(kind: u8, verdict: Verdict) -> Answer
         Verdict::Emergency {
             code: _,
             register: _,
+            data: _,
         } => answer,
         Verdict::Aborted {
             code: _,

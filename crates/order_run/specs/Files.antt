@@ -9,8 +9,8 @@ use Rattle.mailbox.specs.Numbers.{priorityOf, typeOf, serviceOf, commandOf, ope
 use Rattle.mailbox.specs.Headers.{readMailboxHeader, readCoeHeader, readSdoHeader, readSegmented, readSdoInfo}
 use Rattle.services.specs.Requests.{packedOf, cutTo}
 use Rattle.judge.specs.Answers.{answerOf}
-use Rattle.judge.specs.Headers.{readHeaders, readSegmentHeaders, readInformationHeaders, wrongType, wrongAddress}
-use Rattle.judge.specs.Alarm.{emergencyIn, abortIn, alarmIn}
+use Rattle.judge.specs.Headers.{readFront, readHeaders, readSegmentHeaders, readInformationHeaders, wrongType, wrongAddress}
+use Rattle.judge.specs.Alarm.{emergencyIn, abortIn}
 use Rattle.judge.specs.Chunk.{lacking, chunkAt}
 use Rattle.judge.specs.Reply.{inOrder, replyTo}
 use Rattle.judge.specs.Download.{downloadOf, judgeDownload}
@@ -90,7 +90,7 @@ files =
       textOf (hex 16 0x08000000001300800100000001000000 ∷ hex 7 0x00aabbccdd1122 ∷ []),
     )
     -- an emergency and an abort: the number alone
-    ∷ (printed (textOf (upload ∷ hex 20 0x0a00000000130010000000001081110000000000 ∷ [])), textOf (uploadRequest ∷ hex 1 0x21 ∷ []))
+    ∷ (printed (textOf (upload ∷ hex 16 0x0a000000001300101042080102030405 ∷ [])), textOf (uploadRequest ∷ hex 1 0x21 ∷ []))
     ∷ (printed (textOf (upload ∷ hex 16 0x0a000000001300308018100100000206 ∷ [])), textOf (uploadRequest ∷ hex 1 0x22 ∷ []))
     -- "a data buffer of 4,096 bytes": a complete size of 4,096 goes on, and one of 4,097 is 24
     ∷ (printed (textOf (upload ∷ hex 16 0x0a000000001300304118100100100000 ∷ [])), textOf (uploadRequest ∷ firstSegmentRequest ∷ hex 1 0x03 ∷ []))
@@ -98,5 +98,5 @@ files =
     ∷ []
 
 pub files-hold : map (λ (e : List ℕ × List ℕ). e .0) files ≡ map (λ (e : List ℕ × List ℕ). e .1) files
-unfolding files linesIn said printed called lentBack lineText request afterReceive afterReply keptReply afterFrame keptFrame afterAll isForm formOf digitOf charOf byteOf hasBad bytesOf lineOf hexText step judge line.settled andThen seated find headed head vacate place viewOf deskOf answerFor lentAfter beginsWith unfitOf kindOf outside sendsWith receivesWith judged judgedAs budget.budgeted nextOf dueOf requestDue awaitingOf firstRequest firstReply judgeReply packedOf packed cutTo read priorityOf typeOf serviceOf commandOf operationOf readMailboxHeader readCoeHeader readSdoHeader readSegmented readSdoInfo answerOf readHeaders readSegmentHeaders readInformationHeaders wrongType wrongAddress emergencyIn abortIn alarmIn lacking chunkAt inOrder replyTo downloadOf judgeDownload expeditedOf wholeOf normalOf uploadOf judgeUpload chunkLength segmentOf judgeSegment fragmentAt fragmentOf judgeList stored inFront
+unfolding files linesIn said printed called lentBack lineText request afterReceive afterReply keptReply afterFrame keptFrame afterAll isForm formOf digitOf charOf byteOf hasBad bytesOf lineOf hexText step judge line.settled andThen seated find headed head vacate place viewOf deskOf answerFor lentAfter beginsWith unfitOf kindOf outside sendsWith receivesWith judged judgedAs budget.budgeted nextOf dueOf requestDue awaitingOf firstRequest firstReply judgeReply packedOf packed cutTo read priorityOf typeOf serviceOf commandOf operationOf readMailboxHeader readCoeHeader readSdoHeader readSegmented readSdoInfo answerOf readFront readHeaders readSegmentHeaders readInformationHeaders wrongType wrongAddress emergencyIn abortIn lacking chunkAt inOrder replyTo downloadOf judgeDownload expeditedOf wholeOf normalOf uploadOf judgeUpload chunkLength segmentOf judgeSegment fragmentAt fragmentOf judgeList stored inFront
 files-hold = refl

@@ -6,9 +6,9 @@ use mathlib.Core.Option.{Option, some}
 use Prim.Native.Nat.{ℕ, _≤_}
 use native.Mathlib.Omega.{arith}
 use borrow.Author.Tests.{le-ltb, ltb-false}
-use lib.Dec.{ltb}
+use lib.Dec.{ltb, eqb}
 use lib.ListN.{length}
-use Rattle.wire.specs.Words.{pick}
+use Rattle.wire.specs.Words.{pick, both}
 use Rattle.wire.proofs.Cases.{by}
 use Rattle.mailbox.specs.Fields.{the, mailboxType, service, specifier, operation}
 use Rattle.mailbox.specs.Numbers as names
@@ -31,23 +31,28 @@ use Rattle.mailbox.specs.declared.outcome.CoeHeaderRead.the-variants as CoeHead
 use Rattle.mailbox.specs.declared.numbers.CoeService.{CoeService}
 use Rattle.mailbox.specs.declared.numbers.ListedService.{ListedService}
 use Rattle.mailbox.specs.declared.numbers.ListedService.the-variants as ListedService
+use Rattle.mailbox.specs.declared.numbers.CoeCommand.{CoeCommand}
 use Rattle.mailbox.specs.declared.numbers.ListedCommand.{ListedCommand}
 use Rattle.mailbox.specs.declared.numbers.ListedCommand.the-variants as ListedCommand
+use Rattle.mailbox.specs.declared.numbers.SdoInfoOpCode.{SdoInfoOpCode}
 use Rattle.mailbox.specs.declared.numbers.ListedOpCode.{ListedOpCode}
 use Rattle.mailbox.specs.declared.numbers.ListedOpCode.the-variants as ListedOpCode
 use Rattle.judge.specs.Answers.{answerOf, oneOf}
-use Rattle.judge.specs.Headers.{onMailbox, onCoe, onSdo, onSegmented, onInfo, readHeaders, readSegmentHeaders, readInformationHeaders}
+use Rattle.judge.specs.Headers.{onMailbox, onCoe, onSdo, onSegmented, onInfo, onFront, readFront, readHeaders, readSegmentHeaders, readInformationHeaders}
+use Rattle.judge.specs.Alarm.{emergencyIn}
 use Rattle.judge.specs.declared.Verdict.{Verdict}
 use Rattle.judge.specs.declared.Verdict.the-variants.{Refused}
+use Rattle.judge.specs.declared.headers.Front.{Front}
+use Rattle.judge.specs.declared.headers.FrontRead.the-variants as FrontRead
 use Rattle.judge.specs.declared.headers.HeadersRead.{HeadersRead}
 use Rattle.judge.specs.declared.headers.HeadersRead.the-variants as HeadersRead
 use Rattle.judge.specs.declared.headers.SegmentHeadersRead.{SegmentHeadersRead}
 use Rattle.judge.specs.declared.headers.SegmentHeadersRead.the-variants as SegmentHeadersRead
 use Rattle.judge.specs.declared.headers.InformationHeadersRead.{InformationHeadersRead}
 use Rattle.judge.specs.declared.headers.InformationHeadersRead.the-variants as InformationHeadersRead
-use Rattle.promises.specs.Finding.{Finding, refuse}
+use Rattle.promises.specs.Finding.{Finding, refuse, emergency}
 use Rattle.promises.specs.Names.{numbers, types, services, specifiers, operations}
-use Rattle.promises.specs.Rules.{under, unlisted}
+use Rattle.promises.specs.Rules.{under, at, unlisted}
 use Rattle.promises.proofs.Lines.{Look, look, Tells, line, listed}
 
 -- ---- the listed numbers
@@ -61,7 +66,7 @@ service-look : (n : ℕ)
 unfolding names.serviceOf
 service-look n = look names.serviceNumber ListedService.Listed ListedService.Unlisted n names.services
 
-pub specifier-look : (n : ℕ)
+specifier-look : (n : ℕ)
     → Look names.commandNumber ListedCommand.Listed ListedCommand.Unlisted n (names.commandOf n) (oneOf (numbers specifiers) n)
 unfolding names.commandOf
 specifier-look n = look names.commandNumber ListedCommand.Listed ListedCommand.Unlisted n names.commands
@@ -73,28 +78,47 @@ operation-look n = look names.operationNumber ListedOpCode.Listed ListedOpCode.U
 
 -- ---- what each kind's headers are, of the first two and of the third as it is read
 
-abbrev pub sdoIn : MailboxHeader → CoeHeader → SdoHeaderRead → HeadersRead
-sdoIn m c r = onSdo r HeadersRead.Undecodable λ d. HeadersRead.Headers (record { mailbox = m; service = c .service; sdo = d })
+abbrev pub frontOf : MailboxHeader → CoeHeader → Front
+frontOf m c = record { mailbox = m; service = c .service }
 
-abbrev pub segmentIn : MailboxHeader → CoeHeader → SdoHeaderSegmentedRead → SegmentHeadersRead
-segmentIn m c r =
-    onSegmented r SegmentHeadersRead.Undecodable λ g. SegmentHeadersRead.Headers (record { mailbox = m; service = c .service; segment = g })
+abbrev pub sdoIn : Front → SdoHeaderRead → HeadersRead
+sdoIn h r =
+    onSdo r HeadersRead.Undecodable λ d. HeadersRead.Headers (record { mailbox = h .mailbox; service = h .service; sdo = d })
+
+abbrev pub segmentIn : Front → SdoHeaderSegmentedRead → SegmentHeadersRead
+segmentIn h r =
+    onSegmented r SegmentHeadersRead.Undecodable λ g.
+    SegmentHeadersRead.Headers (record { mailbox = h .mailbox; service = h .service; segment = g })
 
 abbrev pub informationIn : MailboxHeader → CoeHeader → SdoInfoHeaderRead → InformationHeadersRead
 informationIn m c r =
     onInfo r InformationHeadersRead.Undecodable λ i. InformationHeadersRead.Headers (record { mailbox = m; service = c .service; information = i })
 
-module _ {H : Type 0} (none : H) where
-  nothing-made : (a : MailboxHeaderRead) (b : CoeHeaderRead) (make : MailboxHeader → CoeHeader → H)
-      → ((m : MailboxHeader) (c : CoeHeader) → make m c ≡ none)
-      → onMailbox a none (λ m. onCoe b none (make m)) ≡ none
-  nothing-made MailboxHeaderRead.Undecodable b make e = refl
-  nothing-made (MailboxHeaderRead.Header m) CoeHeaderRead.Undecodable make e = refl
-  nothing-made (MailboxHeaderRead.Header m) (CoeHeaderRead.Header c) make e = e m c
+nothing-made : {H : Type 0} (none : H) (a : MailboxHeaderRead) (b : CoeHeaderRead) (make : MailboxHeader → CoeHeader → H)
+    → ((m : MailboxHeader) (c : CoeHeader) → make m c ≡ none)
+    → onMailbox a none (λ m. onCoe b none (make m)) ≡ none
+nothing-made none MailboxHeaderRead.Undecodable b make e = refl
+nothing-made none (MailboxHeaderRead.Header m) CoeHeaderRead.Undecodable make e = refl
+nothing-made none (MailboxHeaderRead.Header m) (CoeHeaderRead.Header c) make e = e m c
 
-  refused-first : (b : Bool) (h : H) → pick b none (pick b none h) ≡ pick b none h
-  refused-first true h = refl
-  refused-first false h = refl
+-- service 1, or what the other services are
+abbrev pub unlessOne : {H : Type 0} → H → CoeHeader → H → H
+unlessOne alarmed c other = pick (eqb (names.serviceNumber (c .service)) 1) alarmed other
+
+-- what is done with the front is done behind its two headers
+module _ {H : Type 0} (none alarmed : H) (f : Front → H) where
+  picked : (b : Bool) (h : Front) → onFront (pick b FrontRead.Emergency (FrontRead.Front h)) none alarmed f ≡ pick b alarmed (f h)
+  picked true h = refl
+  picked false h = refl
+
+  behind-front : (a : MailboxHeaderRead) (b : CoeHeaderRead)
+      → onFront
+      (onMailbox a FrontRead.Undecodable λ m. onCoe b FrontRead.Undecodable λ c. unlessOne FrontRead.Emergency c (FrontRead.Front (frontOf m c)))
+      none alarmed f
+      ≡ onMailbox a none λ m. onCoe b none λ c. unlessOne alarmed c (f (frontOf m c))
+  behind-front MailboxHeaderRead.Undecodable b = refl
+  behind-front (MailboxHeaderRead.Header m) CoeHeaderRead.Undecodable = refl
+  behind-front (MailboxHeaderRead.Header m) (CoeHeaderRead.Header c) = picked (eqb (names.serviceNumber (c .service)) 1) (frontOf m c)
 
 module _ (s : List ℕ) where
   -- what is made of the first two headers, by the type and the service that were looked up
@@ -108,66 +132,117 @@ module _ (s : List ℕ) where
   longer : (least k : ℕ) → k ≤ least → under least s ≡ false → ltb (length s) k ≡ false
   longer least k h e = le-ltb (length s) k (omega (arith, ltb-false (length s) least e))
 
-  -- of a third header, which is not read under the rule's least length, and is q else
-  read-in-turn : {H Q : Type 0} (least : ℕ) → 8 ≤ least → (none : H) (make : MailboxHeader → CoeHeader → Q → H) (unread q : Q)
-      → ((m : MailboxHeader) (c : CoeHeader) → make m c unread ≡ none)
-      → onMailbox (readMailboxHeader s) none (λ m. onCoe (readCoeHeader s) none λ c. make m c (pick (under least s) unread q))
-      ≡ pick (under least s) none (inReply none λ m c. make m c q)
-  unfolding readMailboxHeader readCoeHeader
-  read-in-turn least h none make unread q e =
-      by (under least s)
-      (λ y. rw y (nothing-made none (readMailboxHeader s) (readCoeHeader s) (λ m c. make m c unread) e))
-      (λ n. rw (n, longer least 6 (omega (arith, h)) n, longer least 8 (omega (arith, h)) n))
+  -- a third header is not read under the rule's least length, and is q else
+  module _ {H Q : Type 0} (least : ℕ) (h : 8 ≤ least) (none : H) (unread q : Q) where
+    read-in-turn : (make : MailboxHeader → CoeHeader → Q → H) → ((m : MailboxHeader) (c : CoeHeader) → make m c unread ≡ none)
+        → onMailbox (readMailboxHeader s) none (λ m. onCoe (readCoeHeader s) none λ c. make m c (pick (under least s) unread q))
+        ≡ pick (under least s) none (inReply none λ m c. make m c q)
+    unfolding readMailboxHeader readCoeHeader
+    read-in-turn make e =
+        by (under least s)
+        (λ y. rw y (nothing-made none (readMailboxHeader s) (readCoeHeader s) (λ m c. make m c unread) e))
+        (λ n. rw (n, longer least 6 (omega (arith, h)) n, longer least 8 (omega (arith, h)) n))
+
+    read-behind-front : (alarmed : H) (make : Front → Q → H)
+        → onFront (readFront least s) none alarmed (λ f. make f (pick (under least s) unread q))
+        ≡ pick (under least s) none (inReply none λ m c. unlessOne alarmed c (make (frontOf m c) q))
+    unfolding readFront readMailboxHeader readCoeHeader
+    read-behind-front alarmed make =
+        by (under least s)
+        (λ y. rw y)
+        (λ n. rw (n, longer least 6 (omega (arith, h)) n, longer least 8 (omega (arith, h)) n)
+        (behind-front none alarmed (λ f. make f q) (mailboxHeaderOf s (names.typeOf (the mailboxType s))) (coeHeaderOf (names.serviceOf (the service s)))))
 
   pub sdo-read : readHeaders s
       ≡ pick (under 12 s) HeadersRead.Undecodable
-      (inReply HeadersRead.Undecodable λ m c. sdoIn m c (sdoHeaderOf s (names.commandOf (the specifier s))))
+      (inReply HeadersRead.Undecodable λ m c.
+      unlessOne HeadersRead.Emergency c (sdoIn (frontOf m c) (sdoHeaderOf s (names.commandOf (the specifier s)))))
   unfolding readHeaders readSdoHeader
-  sdo-read = read-in-turn 12 (omega arith) HeadersRead.Undecodable sdoIn SdoHeaderRead.Undecodable _ (λ m c. refl)
+  sdo-read = read-behind-front 12 (omega arith) HeadersRead.Undecodable SdoHeaderRead.Undecodable _ HeadersRead.Emergency sdoIn
 
   pub segment-read : readSegmentHeaders s
       ≡ pick (under 9 s) SegmentHeadersRead.Undecodable
-      (inReply SegmentHeadersRead.Undecodable λ m c. segmentIn m c (segmentedOf s (names.commandOf (the specifier s))))
+      (inReply SegmentHeadersRead.Undecodable λ m c.
+      unlessOne SegmentHeadersRead.Emergency c (segmentIn (frontOf m c) (segmentedOf s (names.commandOf (the specifier s)))))
   unfolding readSegmentHeaders readSegmented
   segment-read =
-      ap (pick (under 9 s) SegmentHeadersRead.Undecodable)
-      (read-in-turn 9 (omega arith) SegmentHeadersRead.Undecodable segmentIn SdoHeaderSegmentedRead.Undecodable _ (λ m c. refl))
-      ∙ refused-first SegmentHeadersRead.Undecodable (under 9 s) _
+      read-behind-front 9 (omega arith) SegmentHeadersRead.Undecodable SdoHeaderSegmentedRead.Undecodable _ SegmentHeadersRead.Emergency segmentIn
 
   pub information-read : readInformationHeaders s
       ≡ pick (under 12 s) InformationHeadersRead.Undecodable
       (inReply InformationHeadersRead.Undecodable λ m c. informationIn m c (sdoInfoOf s (names.operationOf (the operation s))))
   unfolding readInformationHeaders readSdoInfo
-  information-read = read-in-turn 12 (omega arith) InformationHeadersRead.Undecodable informationIn SdoInfoHeaderRead.Undecodable _ (λ m c. refl)
+  information-read = read-in-turn 12 (omega arith) InformationHeadersRead.Undecodable SdoInfoHeaderRead.Undecodable _ informationIn (λ m c. refl)
 
-  -- "Under 12 bytes, or an unlisted type, service or ..": of any least length, and any third header that is looked up in a list of its own
-  module _ (least : ℕ) {A R H K : Type 0} {number : A → ℕ} {found : A → R} {missing q : R} {n : ℕ} {among : Bool}
-      (third : Look number found missing n q among)
-      (on : H → (K → Verdict) → Verdict) (f : K → Verdict) (none : H) (make : MailboxHeader → CoeHeader → R → H)
-      (refused : on none f ≡ Refused 0x20) (no-third : (m : MailboxHeader) (c : CoeHeader) → make m c missing ≡ none)
-    where
-      abbrev judged : ListedType → ListedService → R → Verdict
-      judged a b r = on (inTurn none (λ m c. make m c r) a b) f
+  -- "Under 12 bytes, or an unlisted type, service ..": of any least length, and whatever is made of the first two headers
+  module _ (least : ℕ) {H K : Type 0} (on : H → (K → Verdict) → Verdict) (f : K → Verdict) (none : H) (refused : on none f ≡ Refused 0x20) where
+    abbrev judged : (MailboxHeader → CoeHeader → H) → ListedType → ListedService → Verdict
+    judged make a b = on (inTurn none make a b) f
 
-      on-pick : (b : Bool) (h : H) → on (pick b none h) f ≡ pick b (Refused 0x20) (on h f)
-      on-pick true h = refused
-      on-pick false h = refl
+    on-pick : (b : Bool) (h : H) → on (pick b none h) f ≡ pick b (Refused 0x20) (on h f)
+    on-pick true h = refused
+    on-pick false h = refl
 
-      pub decoded : {x : Option Finding}
-          → ((t : MailboxType) (v : CoeService) (a : A)
-          → names.typeNumber t ≡ the mailboxType s → names.serviceNumber v ≡ the service s → number a ≡ n
-          → Tells s (judged (ListedType.Listed t) (ListedService.Listed v) (found a)) x)
-          → Tells s
-          (on (pick (under least s) none (inReply none λ m c. make m c q)) f)
-          (pick (under least s) (some (refuse 0x20))
-          (pick (unlisted types (the mailboxType s)) (some (refuse 0x20))
-          (pick (unlisted services (the service s)) (some (refuse 0x20))
-          (pick (not among) (some (refuse 0x20)) x))))
-      unfolding answerOf
-      decoded p =
-          rw (on-pick (under least s))
-          (line s (under least s) (Refused 0x20) _
-          (listed s (type-look (the mailboxType s)) (λ a. judged a (names.serviceOf (the service s)) q) refused λ t et.
-          listed s (service-look (the service s)) (λ b. judged (ListedType.Listed t) b q) refused λ v ev.
-          listed s third (judged (ListedType.Listed t) (ListedService.Listed v)) (ap (λ h. on h f) (no-third _ _) ∙ refused) λ a ea.
-          p t v a et ev ea))
+    decoded : (make : MailboxHeader → CoeHeader → H) {x : Option Finding}
+        → ((t : MailboxType) (v : CoeService) → names.typeNumber t ≡ the mailboxType s → names.serviceNumber v ≡ the service s
+        → Tells s (judged make (ListedType.Listed t) (ListedService.Listed v)) x)
+        → Tells s
+        (on (pick (under least s) none (inReply none make)) f)
+        (pick (under least s) (some (refuse 0x20))
+        (pick (unlisted types (the mailboxType s)) (some (refuse 0x20))
+        (pick (unlisted services (the service s)) (some (refuse 0x20)) x)))
+    unfolding answerOf
+    decoded make p =
+        rw (on-pick (under least s))
+        (line s (under least s) (Refused 0x20) _
+        (listed s (type-look (the mailboxType s)) (λ a. judged make a (names.serviceOf (the service s))) refused λ t et.
+        listed s (service-look (the service s)) (judged make (ListedType.Listed t)) refused λ v ev.
+        p t v et ev))
+
+    -- a third header that is looked up in a list of its own
+    third : {A R : Type 0} {number : A → ℕ} {found : A → R} {missing q : R} {n : ℕ} {among : Bool} → Look number found missing n q among
+        → (make : MailboxHeader → CoeHeader → R → H) → ((m : MailboxHeader) (c : CoeHeader) → make m c missing ≡ none)
+        → (t : MailboxType) (v : CoeService) {x : Option Finding}
+        → ((a : A) → number a ≡ n → Tells s (judged (λ m c. make m c (found a)) (ListedType.Listed t) (ListedService.Listed v)) x)
+        → Tells s (judged (λ m c. make m c q) (ListedType.Listed t) (ListedService.Listed v)) (pick (not among) (some (refuse 0x20)) x)
+    third l make no-third t v p =
+        listed s l (λ r. judged (λ m c. make m c r) (ListedType.Listed t) (ListedService.Listed v)) (ap (λ h. on h f) (no-third _ _) ∙ refused) p
+
+    -- ".. or operation"
+    pub information-decoded : (make : MailboxHeader → CoeHeader → ListedOpCode → H)
+        → ((m : MailboxHeader) (c : CoeHeader) → make m c ListedOpCode.Unlisted ≡ none)
+        → {x : Option Finding}
+        → ((t : MailboxType) (v : CoeService) (o : SdoInfoOpCode) → names.operationNumber o ≡ the operation s
+        → Tells s (judged (λ m c. make m c (ListedOpCode.Listed o)) (ListedType.Listed t) (ListedService.Listed v)) x)
+        → Tells s
+        (on (pick (under least s) none (inReply none λ m c. make m c (names.operationOf (the operation s)))) f)
+        (pick (under least s) (some (refuse 0x20))
+        (pick (unlisted types (the mailboxType s)) (some (refuse 0x20))
+        (pick (unlisted services (the service s)) (some (refuse 0x20))
+        (pick (unlisted operations (the operation s)) (some (refuse 0x20)) x))))
+    information-decoded make no-third p =
+        decoded (λ m c. make m c (names.operationOf (the operation s))) λ t v et ev.
+        third (operation-look (the operation s)) make no-third t v (p t v)
+
+    -- ".. or specifier", unless the service is 1: then an emergency, and byte 8 is not judged
+    pub sdo-decoded : (alarmed : H) → on alarmed f ≡ emergencyIn s
+        → (make : MailboxHeader → CoeHeader → ListedCommand → H) → ((m : MailboxHeader) (c : CoeHeader) → make m c ListedCommand.Unlisted ≡ none)
+        → {x : Option Finding}
+        → ((t : MailboxType) (v : CoeService) (k : CoeCommand) → names.typeNumber t ≡ the mailboxType s → names.commandNumber k ≡ the specifier s
+        → Tells s (judged (λ m c. make m c (ListedCommand.Listed k)) (ListedType.Listed t) (ListedService.Listed v)) x)
+        → Tells s
+        (on (pick (under least s) none (inReply none λ m c. unlessOne alarmed c (make m c (names.commandOf (the specifier s))))) f)
+        (pick (under least s) (some (refuse 0x20))
+        (pick (unlisted types (the mailboxType s)) (some (refuse 0x20))
+        (pick (unlisted services (the service s)) (some (refuse 0x20))
+        (pick (both (not (eqb (the service s) 1)) (unlisted specifiers (the specifier s))) (some (refuse 0x20))
+        (pick (both (eqb (the service s) 1) (under 16 s)) (some (refuse 0x20))
+        (pick (eqb (the service s) 1) (some (emergency (at 8 9 s) (at 10 10 s) (at 11 15 s)))
+        x))))))
+    unfolding emergencyIn answerOf
+    sdo-decoded alarmed e make no-third p =
+        decoded (λ m c. unlessOne alarmed c (make m c (names.commandOf (the specifier s)))) λ t v et ev.
+        rw ev
+        (by (eqb (the service s) 1)
+        (λ y. rw (y, e) (line s (under 16 s) _ _ refl))
+        (λ n. rw n (third (specifier-look (the specifier s)) make no-third t v λ k ek. p t v k et ek)))

@@ -32,11 +32,21 @@ module _ (s : List ℕ) (h : Bytes s) (i : ℕ) where
       ∙ ap (λ (w : ℕ). read (record { first = 8 * i + 0; width = w }) s) wide
       ∙ read-whole s h i n
 
+  second : i + 1 + 1 ≡ i + 2
+  second = omega arith
+
+  third : i + 2 + 1 ≡ i + 3
+  third = omega arith
+
+  fourth : i + 3 + 1 ≡ i + 4
+  fourth = omega arith
+
   four-is : value (window 4 s i) ≡ byteAt s i + 256 * byteAt s (i + 1) + 65536 * byteAt s (i + 2) + 16777216 * byteAt s (i + 3)
-  four-is =
-      let two : i + 1 + 1 ≡ i + 2 = omega arith in
-      let three : i + 2 + 1 ≡ i + 3 = omega arith in
-      rw (two, three) (omega arith)
+  four-is = rw (second, third) (omega arith)
+
+  five-is : value (window 5 s i)
+      ≡ byteAt s i + 256 * byteAt s (i + 1) + 65536 * byteAt s (i + 2) + 16777216 * byteAt s (i + 3) + 4294967296 * byteAt s (i + 4)
+  five-is = rw (second, third, fourth) (omega arith)
 
 pub reads-low-first : ReadsLowFirst
 reads-low-first s h =
@@ -45,6 +55,7 @@ reads-low-first s h =
       one = λ i. whole-is s h i i 1 refl (omega arith) ∙ add-zero (byteAt s i);
       two = λ i. whole-is s h i (i + 1) 2 (omega arith) (omega arith) ∙ omega arith;
       four = λ i. whole-is s h i (i + 3) 4 (omega arith) (omega arith) ∙ four-is s h i;
+      five = λ i. whole-is s h i (i + 4) 5 (omega arith) (omega arith) ∙ five-is s h i;
     }
 
 -- ---- skipped bits

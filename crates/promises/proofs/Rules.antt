@@ -11,7 +11,7 @@ use lib.ListN.{length}
 use Rattle.wire.specs.Words.{pick, both, firstOf}
 use Rattle.wire.proofs.Cases.{by}
 use Rattle.mailbox.specs.Fields.{the, lengthField, mailboxType, service, expedited, size, specifier, index, subIndex, lastSegment, unusedCount, operation, incomplete}
-use Rattle.mailbox.specs.Numbers.{serviceNumber, commandNumber}
+use Rattle.mailbox.specs.Numbers.{commandNumber}
 use Rattle.mailbox.specs.Headers.{sdoHeaderOf, segmentedOf, sdoInfoOf}
 use Rattle.mailbox.specs.declared.numbers.MailboxType.{MailboxType}
 use Rattle.mailbox.specs.declared.numbers.ListedType.the-variants as ListedType
@@ -21,7 +21,7 @@ use Rattle.mailbox.specs.declared.numbers.ListedService.the-variants as ListedS
 use Rattle.mailbox.specs.declared.numbers.ListedCommand.the-variants as ListedCommand
 use Rattle.judge.specs.Answers.{answerOf}
 use Rattle.judge.specs.Headers.{wrongType, wrongAddress}
-use Rattle.judge.specs.Alarm.{emergencyIn, abortIn, alarmIn, unlessAlarm}
+use Rattle.judge.specs.Alarm.{abortIn}
 use Rattle.judge.specs.Chunk.{lacking, chunkAt, onChunk}
 use Rattle.judge.specs.Reply.{onHeaders, inOrder, replyTo}
 use Rattle.judge.specs.Download.{downloadOf, judgeDownload}
@@ -30,7 +30,6 @@ use Rattle.judge.specs.Segment.{chunkLength, segmentOf, onSegmentHeaders, judge
 use Rattle.judge.specs.Information.{fragmentAt, fragmentOf, onInformationHeaders, judgeList}
 use Rattle.judge.specs.declared.Verdict.{Verdict}
 use Rattle.judge.specs.declared.Verdict.the-variants.{Refused, Segment, Fragment}
-use Rattle.judge.specs.declared.alarm.Alarm.the-variants.{Raised, Quiet}
 use Rattle.judge.specs.declared.chunk.Chunk.the-variants.{There, Missing}
 use Rattle.judge.specs.declared.headers.Headers.{Headers}
 use Rattle.judge.specs.declared.headers.HeadersRead.the-variants as HeadersRead
@@ -38,10 +37,10 @@ use Rattle.judge.specs.declared.headers.SegmentHeadersRead.the-variants as Segm
 use Rattle.judge.specs.declared.headers.InformationHeadersRead.the-variants as InformationHeadersRead
 use Rattle.transfer.specs.Judgement.{judgeReply}
 use Rattle.transfer.specs.declared.due.Reply.the-variants as reply
-use Rattle.promises.specs.Finding.{Finding, refuse, emergency, aborted, done, thenRequest, thenReply}
+use Rattle.promises.specs.Finding.{Finding, refuse, aborted, done, thenRequest, thenReply}
 use Rattle.promises.specs.Rules.{Rule, under, from, fewerFrom, at, isSet, sdo, addressed, download, expeditedUpload, otherUpload, segmentChunk, segmentPlace, segment, chunkPlace, information, rules, JudgedByRules}
 use Rattle.promises.proofs.Lines.{Tells, line, guarded, any-of}
-use Rattle.promises.proofs.Decoded.{specifier-look, operation-look, decoded, inTurn, sdoIn, sdo-read, segmentIn, segment-read, informationIn, information-read}
+use Rattle.promises.proofs.Decoded.{frontOf, information-decoded, sdo-decoded, inTurn, sdoIn, sdo-read, segmentIn, segment-read, informationIn, information-read}
 
 -- ---- tests that the two say differently
 
@@ -61,11 +60,6 @@ chunk-length k unused =
     (λ y. rw (y, eqb-true (k - 3) 7 y))
     (λ n. rw n)
 
-alarm-picks : (b c : Bool) (v u w : Verdict) → unlessAlarm (pick b (Raised v) (pick c (Raised u) Quiet)) w ≡ pick b v (pick c u w)
-alarm-picks true c v u w = refl
-alarm-picks false true v u w = refl
-alarm-picks false false v u w = refl
-
 chunk-picks : (b c : Bool) (sum : ℕ) (f : ℕ → Verdict)
     → onChunk (pick b Missing (pick c Missing (There sum))) f ≡ pick b (Refused 0x25) (pick c (Refused 0x25) (f sum))
 chunk-picks true c sum f = refl
@@ -82,37 +76,32 @@ fragment-place true = refl
 fragment-place false = refl
 
 module _ (s : List ℕ) where
-  -- rules 2 and 3
-  alarm-lines : (v : CoeService) (k : CoeCommand) → serviceNumber v ≡ the service s → commandNumber k ≡ the specifier s
-      → (w : Verdict) {x : Option Finding} → Tells s w x
-      → Tells s (unlessAlarm (alarmIn s v k) w)
-      (pick (both (eqb (the service s) 1) (under 20 s)) (some (refuse 0x20))
-      (pick (eqb (the service s) 1) (some (emergency (at 12 13 s) (at 14 14 s)))
+  -- rule 3, and behind it the fourth
+  abort-lines : (k : CoeCommand) → commandNumber k ≡ the specifier s
+      → (wrong : Bool) (own : Verdict) {x : Option Finding} → Tells s (pick wrong (Refused 0x23) own) x
+      → Tells s (inOrder s k wrong own)
       (pick (both (eqb (the specifier s) 4) (under 16 s)) (some (refuse 0x20))
       (pick (eqb (the specifier s) 4) (some (aborted (at 12 15 s) (at 9 10 s) (at 11 11 s)))
-      x))))
-  unfolding alarmIn emergencyIn abortIn answerOf
-  alarm-lines v k ev ek w p =
-      let raised = eqb (the service s) 1 in
-      let stopped = eqb (the specifier s) 4 in
-      rw (ev, ek, alarm-picks raised stopped (emergencyIn s) (abortIn s) w)
-      (guarded s raised (under 20 s) _ _ _ (guarded s stopped (under 16 s) _ _ w p))
+      x))
+  unfolding inOrder abortIn answerOf
+  abort-lines k ek wrong own p = rw ek (guarded s (eqb (the specifier s) 4) (under 16 s) _ _ (pick wrong (Refused 0x23) own) p)
 
   -- rules 1 to 4, and the kind's own behind them
   module _ (i b : ℕ) (f : Headers → Verdict) (kind : List Rule) where
     reply-told : ((t : MailboxType) (v : CoeService) (k : CoeCommand)
         → Tells s
-        (onHeaders
-        (inTurn s HeadersRead.Undecodable (λ m c. sdoIn m c (sdoHeaderOf s (ListedCommand.Listed k))) (ListedType.Listed t) (ListedService.Listed v))
+        (onHeaders s
+        (inTurn s HeadersRead.Undecodable (λ m c. sdoIn (frontOf m c) (sdoHeaderOf s (ListedCommand.Listed k))) (ListedType.Listed t) (ListedService.Listed v))
         f)
         (firstOf kind))
         → Tells s (replyTo i b s f) (firstOf (sdo 12 s ++ addressed i b s ++ kind))
-    unfolding firstOf inOrder replyTo wrongAddress wrongType answerOf
+    unfolding firstOf replyTo wrongAddress wrongType answerOf
     reply-told p =
         rw (sdo-read s)
-        (decoded s 12 (specifier-look (the specifier s)) onHeaders _ HeadersRead.Undecodable (λ m c k. sdoIn m c (sdoHeaderOf s k)) refl (λ m c. refl)
-        λ t v k et ev ek.
-        alarm-lines v k ev ek _
+        (sdo-decoded s 12 (onHeaders s) _ HeadersRead.Undecodable refl HeadersRead.Emergency refl
+        (λ m c k. sdoIn (frontOf m c) (sdoHeaderOf s k)) (λ m c. refl)
+        λ t v k et ek.
+        abort-lines k ek _ _
         (rw et
         (any-of s (not (eqb (the mailboxType s) 3)) (not (eqb (the index s) i)) (not (eqb (the subIndex s) b)) _ _ (p t v k))))
 
@@ -152,12 +141,13 @@ module _ (s : List ℕ) where
   last-line place len sum false = refl
 
   segment-told : (earlier n : ℕ) → Tells s (judgeSegment earlier n s) (firstOf (sdo 9 s ++ segment earlier n s))
-  unfolding firstOf inOrder judgeSegment wrongType segmentOf answerOf
+  unfolding firstOf judgeSegment wrongType segmentOf answerOf
   segment-told earlier n =
       rw (segment-read s)
-      (decoded s 9 (specifier-look (the specifier s)) onSegmentHeaders _ SegmentHeadersRead.Undecodable (λ m c k. segmentIn m c (segmentedOf s k))
-      refl (λ m c. refl) λ t v k et ev ek.
-      alarm-lines v k ev ek _
+      (sdo-decoded s 9 (onSegmentHeaders s) _ SegmentHeadersRead.Undecodable refl SegmentHeadersRead.Emergency refl
+      (λ m c k. segmentIn (frontOf m c) (segmentedOf s k)) (λ m c. refl)
+      λ t v k et ek.
+      abort-lines k ek _ _
       (rw (et, chunk-length (the lengthField s) (the unusedCount s))
       (line s (not (eqb (the mailboxType s) 3)) _ _
       (line s (ltb (the lengthField s) 3) _ _
@@ -179,8 +169,8 @@ module _ (s : List ℕ) where
   information-told begun earlier n =
       let k = the lengthField s - 8 in
       rw (information-read s)
-      (decoded s 12 (operation-look (the operation s)) onInformationHeaders _ InformationHeadersRead.Undecodable
-      (λ m c o. informationIn m c (sdoInfoOf s o)) refl (λ m c. refl) λ t v o et ev eo.
+      (information-decoded s 12 onInformationHeaders _ InformationHeadersRead.Undecodable refl (λ m c o. informationIn m c (sdoInfoOf s o))
+      (λ m c. refl) λ t v o eo.
       rw (eo, other-way (eqb (the operation s) 2), fragment-place begun)
       (line s (not (eqb (the operation s) 2)) _ _
       (line s (ltb (the lengthField s) 8) _ _

@@ -9,7 +9,7 @@ use lib.ListN.{length}
 use Rattle.wire.specs.Words.{both, either}
 use Rattle.wire.specs.Bytes.{Bytes, byteAt}
 use Rattle.wire.specs.Fields.{Field, end, read}
-use Rattle.mailbox.specs.Fields.{Name, place, the, lengthField, priority, mailboxType, counter, service, sizeIndicator, expedited, size, completeAccess, specifier, index, subIndex, lastSegment, unusedCount, toggle, operation, incomplete, fragmentsLeft, listKind, expeditedData, completeSize, abortCode, emergencyCode, errorRegister}
+use Rattle.mailbox.specs.Fields.{Name, place, the, lengthField, priority, mailboxType, counter, service, sizeIndicator, expedited, size, completeAccess, specifier, index, subIndex, lastSegment, unusedCount, toggle, operation, incomplete, fragmentsLeft, listKind, expeditedData, completeSize, abortCode, emergencyCode, errorRegister, emergencyData}
 use Rattle.mailbox.specs.declared.sub_index.SubIndex.{SubIndex}
 use Rattle.mailbox.specs.declared.sub_index.SubIndex.the-variants.{Complete, Index}
 use Rattle.services.specs.Requests.{packedOf}
@@ -33,6 +33,8 @@ pub record LowFirst (s : List ℕ) : Type 0 where
   pub two : (i : ℕ) → read (whole i (i + 1)) s ≡ byteAt s i + 256 * byteAt s (i + 1)
   pub four : (i : ℕ) → read (whole i (i + 3)) s
       ≡ byteAt s i + 256 * byteAt s (i + 1) + 65536 * byteAt s (i + 2) + 16777216 * byteAt s (i + 3)
+  pub five : (i : ℕ) → read (whole i (i + 4)) s
+      ≡ byteAt s i + 256 * byteAt s (i + 1) + 65536 * byteAt s (i + 2) + 16777216 * byteAt s (i + 3) + 4294967296 * byteAt s (i + 4)
 
 abbrev pub ReadsLowFirst : Type 0
 ReadsLowFirst = (s : List ℕ) → Bytes s → LowFirst s
@@ -70,10 +72,12 @@ layouts =
     -- "Download packs 16 bytes", data of up to 4 behind the 12 of an upload; "Complete size at 12-15"
     ∷ (expeditedData, whole 12 15)
     ∷ (completeSize, whole 12 15)
-    -- "22, code at 12-15"; "21, code at 12-13, register at 14"
+    -- "22, code at 12-15"
     ∷ (abortCode, whole 12 15)
-    ∷ (emergencyCode, whole 12 13)
-    ∷ (errorRegister, whole 14 14)
+    -- document 02, [5]: "the error code follows the CoE header: bytes 8-9, register 10, five data bytes"
+    ∷ (emergencyCode, whole 8 9)
+    ∷ (errorRegister, whole 10 10)
+    ∷ (emergencyData, whole 11 15)
     ∷ []
 
 abbrev pub LaidOut : Type 0

@@ -15,23 +15,23 @@ finding v s = (answerOf v, taken v s)
 
 -- a number that has no values
 abbrev pub number : ℕ → Answer
-number x = record { number = x; sub = 0; index = 0; code = 0; length = 0 }
+number x = record { number = x; sub = 0; index = 0; code = 0; length = 0; «data» = 0 }
 
 -- "20 .. buffers unchanged by this call, also for all 2x"
 abbrev pub refuse : ℕ → Finding
 refuse x = (number x, [])
 
--- "emergency: code, register"
-abbrev pub emergency : ℕ → ℕ → Finding
-emergency code register = (record { number = 0x21; sub = register; index = 0; code = code; length = 0 }, [])
+-- "emergency: code, register"; document 02, [5]: "Answer 21 now also hands back the five bytes", as one number, the first lowest
+abbrev pub emergency : ℕ → ℕ → ℕ → Finding
+emergency code register five = (record { number = 0x21; sub = register; index = 0; code = code; length = 0; «data» = five }, [])
 
 -- "aborted: code, index, sub-index"
 abbrev pub aborted : ℕ → ℕ → ℕ → Finding
-aborted code i b = (record { number = 0x22; sub = b; index = i; code = code; length = 0 }, [])
+aborted code i b = (record { number = 0x22; sub = b; index = i; code = code; length = 0; «data» = 0 }, [])
 
 -- "done, payload length P"
 abbrev pub doneOf : ℕ → Answer
-doneOf p = record { number = 0x00; sub = 0; index = 0; code = 0; length = p }
+doneOf p = record { number = 0x00; sub = 0; index = 0; code = 0; length = p; «data» = 0 }
 
 abbrev pub done : ℕ → List ℕ → Finding
 done p chunk = (doneOf p, chunk)

@@ -1,4 +1,4 @@
--- Document 01, "Judging a reply", as request [1] of document 02 changes it, a second time: its rules as lists of conditions on the
+-- Document 01, "Judging a reply", as requests [1] and [5] of document 02 change it, a second time: its rules as lists of conditions on the
 -- reply's bytes, each with what is told where it holds. The statements say that the judge tells what the first of them that holds tells.
 -- s is the reply, n is this call's N, earlier the sum of the earlier chunks. Assumes nothing.
 use mathlib.Core.Path.{_≡_}
@@ -44,7 +44,7 @@ from place len s = take len (drop place s)
 abbrev pub fewerFrom : ℕ → ℕ → List ℕ → Bool
 fewerFrom place len s = ltb (length s - place) len
 
--- "code at 12-13": at 12 13
+-- "bytes 8-9": at 8 9
 abbrev pub at : ℕ → ℕ → List ℕ → ℕ
 at first last s = read (whole first last) s
 
@@ -60,14 +60,16 @@ unlisted table x = not (oneOf (numbers table) x)
 -- least is how long the reply must at least be, by what it answers
 abbrev pub sdo : ℕ → List ℕ → List Rule
 sdo least s =
-    -- "1. Under 12 bytes, or an unlisted type, service or specifier: 20."
+    -- "1. Under 12 bytes, or an unlisted type, service or specifier: 20."; document 02, [5]: "the header reading must not judge byte 8 when
+    -- the service is 1, and all that use it follow"
     (under least s, refuse 0x20)
     ∷ (unlisted types (the mailboxType s), refuse 0x20)
     ∷ (unlisted services (the service s), refuse 0x20)
-    ∷ (unlisted specifiers (the specifier s), refuse 0x20)
-    -- "2. Service 1: under 20 bytes is 20; else 21, code at 12-13, register at 14, where the source places them."
-    ∷ (both (eqb (the service s) 1) (under 20 s), refuse 0x20)
-    ∷ (eqb (the service s) 1, emergency (at 12 13 s) (at 14 14 s))
+    ∷ (both (not (eqb (the service s) 1)) (unlisted specifiers (the specifier s)), refuse 0x20)
+    -- 2. Document 02, [5]: "An emergency under 16 bytes is 20, in the place where the 20-byte limit stood."; "the error code follows the CoE
+    -- header: bytes 8-9, register 10, five data bytes. .. Answer 21 now also hands back the five bytes."
+    ∷ (both (eqb (the service s) 1) (under 16 s), refuse 0x20)
+    ∷ (eqb (the service s) 1, emergency (at 8 9 s) (at 10 10 s) (at 11 15 s))
     -- "3. Specifier 4: under 16 bytes is 20; else 22, code at 12-15."
     ∷ (both (eqb (the specifier s) 4) (under 16 s), refuse 0x20)
     ∷ (eqb (the specifier s) 4, aborted (at 12 15 s) (at 9 10 s) (at 11 11 s))

@@ -9,7 +9,7 @@ use Rattle.line.specs.Alone.{listedOf}
 use Rattle.transfer.specs.declared.Order.{Order}
 use Rattle.transfer.specs.Coe.{Told}
 use Rattle.desk.specs.Stand.{deskStand, isAnswered}
-use Rattle.promises.specs.Finding.{number, doneOf}
+use Rattle.promises.specs.Finding.{number, emergency, doneOf}
 use Rattle.promises.specs.Standing.{Called, Deed}
 
 abbrev pub toldFrom : ℕ → List Called → List Told
@@ -70,6 +70,10 @@ lastFragment = hex 14 0x0a00000000130080020000001122
 abbrev pub downloaded : List ℕ
 downloaded = hex 16 0x0a000000001300306060600000000000
 
+-- code 0x4210, register 8, and the bytes 01 to 05
+abbrev pub overtemperature : List ℕ
+overtemperature = hex 16 0x0a000000001300101042080102030405
+
 -- ---- what is told
 
 abbrev pub entered : Told
@@ -83,6 +87,9 @@ sent frame = (number 0x02, frame)
 
 abbrev pub refused : ℕ → List ℕ → Told
 refused n buffer = (number n, buffer)
+
+abbrev pub alarmed : ℕ → ℕ → ℕ → List ℕ → Told
+alarmed code register five buffer = (emergency code register five .0, buffer)
 
 -- one frame of a transfer that is then left
 abbrev pub oneFrame : List Called
@@ -144,6 +151,38 @@ runs =
     ∷ (
       toldFrom 2 (enter 0 download ∷ send 0 (blank 16) ∷ receive 0 (downloaded, blank 2) ∷ []),
       entered ∷ sent (hex 16 0x0a000000002300202f60600008000000) ∷ (doneOf 0, blank 2) ∷ [],
+    )
+    -- document 02, [5]: "A drive's overtemperature message" is told with code, register and the five bytes, in an upload's, a segment's and a
+    -- download's place; the next frame goes out behind it. Byte 8 is not judged: a code of 0xff80 is no abort
+    ∷ (
+      toldFrom 1
+          (enter 0 (upload 1) ∷ send 0 (blank 16) ∷ receive 0 (overtemperature, blank 4)
+          ∷ enter 0 (upload 2) ∷ send 0 (blank 16) ∷ receive 0 (segmentsFollow, blank 8) ∷ send 0 (blank 16) ∷ receive 0 (overtemperature, blank 8)
+          ∷ enter 0 download ∷ send 0 (blank 16) ∷ receive 0 (hex 16 0x0a0000000013001080ff20a1a2a3a4a5, blank 2) ∷ []),
+      entered
+          ∷ sent (hex 16 0x0a000000001300204018100100000000)
+          ∷ alarmed 0x4210 8 0x0504030201 (blank 4)
+          ∷ entered
+          ∷ sent (hex 16 0x0a000000002300204018100100000000)
+          ∷ (number 0x01, blank 8)
+          ∷ sent (hex 16 0x0a000000003300206000000000000000)
+          ∷ alarmed 0x4210 8 0x0504030201 (blank 8)
+          ∷ entered
+          ∷ sent (hex 16 0x0a000000004300202f60600008000000)
+          ∷ alarmed 0xff80 0x20 0xa5a4a3a2a1 (blank 2)
+          ∷ [],
+    )
+    -- 15 bytes of it are 20, in a segment's place too
+    ∷ (
+      toldFrom 1
+          (enter 0 (upload 2) ∷ send 0 (blank 16) ∷ receive 0 (segmentsFollow, blank 8) ∷ send 0 (blank 16)
+          ∷ receive 0 (hex 15 0x0a0000000013001010420801020304, blank 8) ∷ []),
+      entered
+          ∷ sent (hex 16 0x0a000000001300204018100100000000)
+          ∷ (number 0x01, blank 8)
+          ∷ sent (hex 16 0x0a000000002300206000000000000000)
+          ∷ refused 0x20 (blank 8)
+          ∷ [],
     )
     -- complete access, the quantities, and complete access again: each with the frame and the reply that its kind's number stands for
     ∷ (

@@ -23,6 +23,7 @@ pub fn answer(answer: Answer) {
     next(answer.index as u64, 4);
     next(answer.code as u64, 8);
     next(answer.length as u64, 8);
+    next(answer.data, 10);
 }
 
 fn spelled(s: &[u8], text: &mut [u8]) {

@@ -43,9 +43,9 @@ judgeRules kind i b earlier s d =
 -- on 01 and 02 the length of this reply's chunk is told, and on 02 whether the list has begun: by kind 8, or by this reply's operation 2
 unfoldable pub besides : ℕ → List ℕ → Finding → Answer
 besides kind s f =
-    pick (eqb (f .0 .number) 0x01) (record { number = 0x01; sub = 0; index = 0; code = 0; length = length (f .1) })
+    pick (eqb (f .0 .number) 0x01) (record { number = 0x01; sub = 0; index = 0; code = 0; length = length (f .1); «data» = 0 })
     (pick (eqb (f .0 .number) 0x02)
-    (record { number = 0x02; sub = pick (either (eqb kind 8) (eqb (the operation s) 2)) 1 0; index = 0; code = 0; length = length (f .1) })
+    (record { number = 0x02; sub = pick (either (eqb kind 8) (eqb (the operation s) 2)) 1 0; index = 0; code = 0; length = length (f .1); «data» = 0 })
     (f .0))
 
 -- "Each call writes only its own chunk, at the sum of the earlier ones." An upload's data and a download's have none before them.

@@ -29,6 +29,7 @@ fn goes_on(verdict: Verdict) -> bool
         Verdict::Emergency {
             code: _,
             register: _,
+            data: _,
         } => false,
         Verdict::Aborted {
             code: _,
@@ -108,6 +109,7 @@ pub(crate) fn next(t: Transfer, verdict: Verdict) -> Next
         Verdict::Emergency {
             code: _,
             register: _,
+            data: _,
         } => Next::Over,
         Verdict::Aborted {
             code: _,

@@ -7,6 +7,7 @@ use crate::ffi::Answer;
 const LEAST: usize = 12;
 const SEGMENT_LEAST: usize = 9;
 const SEGMENT_AT: u16 = 9;
+const EMERGENCY_LEAST: usize = 16;
 
 /// What a reply is judged by. `earlier` is the sum of the chunks before it.
 #[derive(Debug, Clone, Copy)]
@@ -38,6 +39,11 @@ fn long(reply: &[u8], at: usize) -> u32 {
     u32::from_le_bytes([reply[at], reply[at + 1], reply[at + 2], reply[at + 3]])
 }
 
+/// Five bytes, the first lowest.
+fn five(reply: &[u8], at: usize) -> u64 {
+    u64::from_le_bytes([reply[at], reply[at + 1], reply[at + 2], reply[at + 3], reply[at + 4], 0, 0, 0])
+}
+
 fn expect_len(reply: &[u8], least: usize) -> Result<(), Answer> {
     if reply.len() < least {
         return Err(numbered(0x20));
@@ -59,15 +65,15 @@ fn expect_header<const LEAST: usize>(reply: &[u8]) -> Result<(), Answer> {
     expect_listed(matches!(reply[5] & 0x0f, 0..=5 | 15) && matches!(reply[7] >> 4, 1..=8))
 }
 
-/// The rules that every SDO reply is judged by: an emergency or an abort comes before the type.
+/// The rules that every SDO reply is judged by: an emergency, whose byte 8 is no specifier's, or an abort comes before the type.
 fn expect_sdo<const LEAST: usize>(reply: &[u8]) -> Result<(), Answer> {
     expect_header::<LEAST>(reply)?;
+    if reply[7] >> 4 == 1 {
+        expect_len(reply, EMERGENCY_LEAST)?;
+        return Err(Answer { code: word(reply, 8).into(), sub: reply[10], data: five(reply, 11), ..numbered(0x21) });
+    }
     let specifier = reply[8] >> 5;
     expect_listed(specifier <= 4)?;
-    if reply[7] >> 4 == 1 {
-        expect_len(reply, 20)?;
-        return Err(Answer { code: word(reply, 12).into(), sub: reply[14], ..numbered(0x21) });
-    }
     if specifier == 4 {
         expect_len(reply, 16)?;
         return Err(Answer { code: long(reply, 12), index: word(reply, 9), sub: reply[11], ..numbered(0x22) });

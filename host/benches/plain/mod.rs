@@ -14,5 +14,5 @@ use crate::ffi::Answer;
 
 /// An answer that is its number alone.
 const fn numbered(number: u8) -> Answer {
-    Answer { number, sub: 0, index: 0, code: 0, length: 0 }
+    Answer { number, sub: 0, index: 0, code: 0, length: 0, data: 0 }
 }

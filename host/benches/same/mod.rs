@@ -18,6 +18,13 @@ impl Chance {
         self.below(256) as u8
     }
 
+    /// Code, register and data are any: the code's low byte stands where other replies have their command.
+    fn emergency(&mut self) -> Vec<u8> {
+        let mut reply = b"\x0a\0\0\0\0\x13\0\x10".to_vec();
+        reply.extend([0; 8].map(|_: u8| self.byte()));
+        reply
+    }
+
     /// A reply near to a drive's, of any kind, an abort or an emergency: some bytes, the length field or the end changed or not.
     fn reply(&mut self) -> Vec<u8> {
         let mut reply = match self.below(6) {
@@ -25,7 +32,7 @@ impl Chance {
             1 => b"\x0e\0\0\0\0\x13\0\x30\x41\x18\x10\x04\x04\0\0\0\x01\x02\x03\x04".to_vec(),
             2 => b"\x0a\0\0\0\0\x13\0\x30\0\x01\x02\x03\x04\x05\x06\x07\x08".to_vec(),
             3 => ABORT.to_vec(),
-            4 => b"\x0a\0\0\0\0\x13\0\x10\0\0\0\0\x10\x23\x01\0\0\0\0\0".to_vec(),
+            4 => self.emergency(),
             _ => b"\x0c\0\0\0\0\x13\0\x80\x82\0\x01\0\x01\0\0\x10\x18\x10\x00\x20".to_vec(),
         };
         for _ in 0..self.below(3) {

@@ -24,6 +24,7 @@ pub struct Answer {
     pub index: u16,
     pub code: u32,
     pub length: u32,
+    pub data: u64,
 }
 
 #[repr(C)]

@@ -14,7 +14,20 @@ fn the_record_is_the_headers() {
 #[test]
 fn answers_are_of_the_sizes_that_cross() {
     let sizes = [size_of::<Answer>(), size_of::<Unsigned>(), size_of::<Signed>(), size_of::<Item>(), size_of::<Quantities>()];
-    assert_eq!(sizes, [12, 8, 8, 16, 12]);
+    assert_eq!(sizes, [24, 8, 8, 16, 12]);
+}
+
+#[test]
+fn an_answer_crosses_whole() {
+    let hot = b"\x0a\0\0\0\0\x13\0\x10\x10\x42\x08\x01\x02\x03\x04\x05";
+    let emergency = Answer { number: 0x21, sub: 8, index: 0, code: 0x4210, length: 0, data: 0x05_0403_0201 };
+    assert_eq!([1, 3, 7].map(|kind| judge(kind, 0x1018, 4, 0, hot, &mut [])), [emergency; 3]);
+    let abort = b"\x0a\0\0\0\0\x13\0\x20\x80\x18\x10\x04\x11\0\x09\x06";
+    let aborted = Answer { number: 0x22, sub: 4, index: 0x1018, code: 0x0609_0011, length: 0, data: 0 };
+    assert_eq!([1, 3, 7].map(|kind| judge(kind, 0x1018, 4, 0, abort, &mut [])), [aborted; 3]);
+    let upload = b"\x0a\0\0\0\0\x13\0\x30\x43\x18\x10\x04\x78\x56\x34\x12";
+    let done = Answer { number: 0x00, sub: 0, index: 0, code: 0, length: 4, data: 0 };
+    assert_eq!(judge(1, 0x1018, 4, 0, upload, &mut [0; 4]), done);
 }
 
 #[test]

@@ -41,6 +41,11 @@ impl Drive {
         self.objects.iter().find(|object| (object.0, object.1) == (index, sub)).map(|object| &object.2[..])
     }
 
+    /// An emergency message, which lies in the mailbox behind what is there already.
+    pub fn raise(&mut self, code: u16, register: u8, data: [u8; 5]) {
+        self.replies.push_back(emergency(code, register, data));
+    }
+
     /// The next reply, if one is there.
     pub fn reply(&mut self) -> Option<Vec<u8>> {
         self.replies.pop_front()
@@ -159,6 +164,15 @@ impl Drive {
 fn front(length: usize, service: u8, command: u8) -> Vec<u8> {
     let length = (length as u16).to_le_bytes();
     vec![length[0], length[1], 0, 0, 0, 0x13, 0, service << 4, command]
+}
+
+/// By ETG.1000.6 code, register and data follow the CoE header, so that byte 8 is the code's low byte.
+pub fn emergency(code: u16, register: u8, data: [u8; 5]) -> Vec<u8> {
+    let [low, high] = code.to_le_bytes();
+    let mut message = front(10, 1, low);
+    message.extend([high, register]);
+    message.extend(data);
+    message
 }
 
 /// A task's way to the drive.

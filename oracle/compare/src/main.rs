@@ -1,6 +1,7 @@
 //! The comparison of the published Rust with the exported functions and the order program: see ../README.md.
 mod case;
 mod differences;
+mod emergency;
 mod fields;
 mod frames;
 mod generate;

@@ -98,6 +98,7 @@ impl Entered {
             End::Left => "03".into(),
             End::Done { length } => format!("00{}", hex::digits(&ran.stored[..(*length).min(ROOM)])),
             End::Refused(number) | End::Over { number, .. } => format!("{number:02x}"),
+            End::Emergency { .. } => "21".into(),
             End::Undecoded { .. } | End::Panicked(_) => "no number".into(),
         };
         (out + "\n").into_bytes()

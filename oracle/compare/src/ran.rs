@@ -10,8 +10,10 @@ pub enum End {
     Left,
     /// A call was refused, 1x, and the transfer left.
     Refused(u8),
-    /// 2x, with the values that were given.
+    /// 2x but 21, with the values that were given.
     Over { number: u8, code: u32, index: u16, sub: u8 },
+    /// 21.
+    Emergency { code: u16, register: u8, data: [u8; 5] },
     /// The Rust's alone: it read P bytes, but they are not what was asked for, and one call has one answer.
     Undecoded { length: usize },
     /// The Rust's alone.
@@ -74,6 +76,7 @@ impl fmt::Display for Ran {
             End::Left => write!(f, "03")?,
             End::Refused(number) => write!(f, "{number:02x}")?,
             End::Over { number, code, index, sub } => write!(f, "{number:02x}, values {code:08x} {index:04x} {sub:02x}")?,
+            End::Emergency { code, register, data } => write!(f, "21, values {code:04x} {register:02x} {}", hex::text(data))?,
             End::Undecoded { length } => write!(f, "20 after P = {length}")?,
             End::Panicked(text) => write!(f, "panic: {text}")?,
         }

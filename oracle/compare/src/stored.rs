@@ -49,7 +49,7 @@ impl Row {
             End::Done { length } => (0x00, hex::text(&ran.stored[..(*length).min(ran.stored.len())])),
             End::Left => (0x03, "-".into()),
             End::Refused(number) => (*number, "-".into()),
-            End::Over { number: 0x21, code, sub, .. } => (0x21, format!("{code:04x} {sub:02x}")),
+            End::Emergency { code, register, .. } => (0x21, format!("{code:04x} {register:02x}")),
             End::Over { number: 0x22, code, index, sub } => (0x22, format!("{code:08x} {index:04x} {sub:02x}")),
             End::Over { number, .. } => (*number, "-".into()),
             End::Undecoded { .. } | End::Panicked(_) => return false,

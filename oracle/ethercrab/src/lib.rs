@@ -4,6 +4,8 @@
 #![allow(stable_features, unknown_lints)]
 #![feature(arbitrary_enum_discriminant, let_else, result_option_inspect)]
 
+#[macro_use]
+pub mod assertion;
 pub mod error;
 mod fmt;
 pub mod frames;

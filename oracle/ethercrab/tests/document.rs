@@ -1,4 +1,5 @@
 //! The published code over the stand-ins gives the frames and answers that document 01 prints.
+use ethercrab::assertion;
 use ethercrab::error::{Error, MailboxError};
 use ethercrab::play::{play, Call, Lent, Number, Outcome, Played};
 use ethercrab::wire::WireError;
@@ -52,6 +53,20 @@ fn segment_data_are_taken_from_byte_12_and_eleven_bytes_are_too_short() {
     assert_eq!(run.outcome, Outcome::Payload(bytes("6465")));
     let run = played(OBJECT, 4, &[announced, "0a000000001300306b6162"]);
     assert_eq!(run.outcome, Outcome::Refused(Error::Wire(WireError::ReadBufferTooShort)));
+}
+
+/// Document 01: "under 20 bytes is 20; else 21, code at 12-13, register at 14, where the source places them." Document 02 has them at
+/// bytes 8 to 10, of 16.
+#[test]
+fn emergencies_are_asserted_against_and_behind_that_their_code_is_at_byte_12() {
+    let emergency = "0a00000000130010308111010203040506070809";
+    let played = |length: usize| played(OBJECT, 4, &[&emergency[..2 * length]]).outcome;
+    for length in [12, 16, 20] {
+        assert!(matches!(played(length), Outcome::Panicked(text) if text.contains("assertion")), "{length} bytes");
+    }
+    let told = MailboxError::Emergency { error_code: 0x0302, error_register: 0x04 };
+    assert_eq!(assertion::without(|| played(20)), Outcome::Refused(Error::Mailbox(told)));
+    assert_eq!(assertion::without(|| played(19)), Outcome::Refused(Error::Wire(WireError::ReadBufferTooShort)));
 }
 
 #[test]

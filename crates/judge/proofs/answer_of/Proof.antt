@@ -38,5 +38,5 @@ returns-8 c = rw (c .before .enum-told2 .given .1) (c .plain3 .ensures)
 
 pub answer-of-spec : {M : Type 1} → statement M
 answer-of-spec =
-    let rest : tie.Need-enum-known-verdict × tie.Need-enum-known-verdict-2 × tie.Need-cast-t14 × tie.Need-enum-known-verdict-3 × tie.Need-enum-known-verdict-4 × tie.Need-cast-done × tie.Need-enum-told × tie.Need-enum-known-verdict-5 × tie.Need-enum-known-verdict-6 × tie.Need-enum-told-2 = search needs in
+    let rest : tie.Need-enum-known-verdict × tie.Need-enum-known-verdict-2 × tie.Need-cast-t15 × tie.Need-enum-known-verdict-3 × tie.Need-enum-known-verdict-4 × tie.Need-cast-done × tie.Need-enum-told × tie.Need-enum-known-verdict-5 × tie.Need-enum-known-verdict-6 × tie.Need-enum-told-2 = search needs in
     tie.close (search (tie.spec, rest, returns, returns-2, returns-3, returns-4, returns-5, returns-6, returns-7, returns-8))

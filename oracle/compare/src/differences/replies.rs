@@ -1,6 +1,8 @@
-//! Replies at which the Rust panics or refuses, and document 01 has a number, and segments, whose data it takes from another place.
+//! Replies at which the Rust panics or refuses, and documents 01 and 02 have a number, and segments, whose data it takes from another
+//! place.
 use super::{Difference, Instead, Parting, Rule};
-use crate::fields::{length_field, service, specifier, EMERGENCY};
+use crate::emergency::{is_emergency, told, LEAST};
+use crate::fields::{length_field, specifier};
 use crate::ran::{End, Ran, Read};
 use crate::sides::shifted::has_data;
 use crate::sides::theirs::Asked;
@@ -23,18 +25,19 @@ pub const ASKED: &[Difference] = &[
     Difference { id: "D7", smallest: "read 1018 01 - 4\n0a0000000013003002181001", rule: Rule::Transfer(specifier_0) },
     Difference {
         id: "D13",
-        smallest: "read 1018 01 - 4\n0a00000000130010001810010000000000000000",
-        rule: Rule::Transfer(emergency_with_specifier_0),
+        smallest: "read 1018 01 - 4\n0a000000001300101042080102030405",
+        rule: Rule::Always(byte_8_of_an_emergency),
+    },
+    Difference {
+        id: "D13",
+        smallest: "read 1018 01 - 4\n0a00000000130010e0ff080102030405",
+        rule: Rule::Always(byte_8_of_an_emergency),
     },
 ];
 
 pub const ENDS: &[Difference] = &[
-    Difference {
-        id: "D8",
-        smallest: "read 1018 01 - 4\n0a00000000130010601810010000000000000000",
-        rule: Rule::Transfer(emergency),
-    },
-    Difference { id: "D9", smallest: "read 1018 01 - 4\n0a0000000013001060181001", rule: Rule::Transfer(short_emergency) },
+    Difference { id: "D8", smallest: "read 1018 01 - 4\n0a000000001300103081110102030405", rule: Rule::Transfer(emergency) },
+    Difference { id: "D9", smallest: "read 1018 01 - 4\n0a0000000013001030811101", rule: Rule::Transfer(short_emergency) },
     Difference {
         id: "D10",
         smallest: "read 1018 01 - 9\n0a000000001300304118100109000000\n020000000013003061",
@@ -53,27 +56,25 @@ fn place_of_segment_data<'a>(parting: &Parting<'a>) -> Option<Asked<'a>> {
     so.then(|| Asked { segments_are_shifted: true, ..parting.asked.clone() })
 }
 
-/// Any other specifier but 4 is judged alike: the Rust is asked again with 2.
-fn with_specifier_2<'a>(parting: &Parting<'a>, of_emergency: bool) -> Option<Instead<'a>> {
-    let reply = parting.last_reply()?;
+/// The reply of an SDO call in which the Rust found an unlisted number.
+fn unlisted<'a>(parting: &Parting<'a>) -> Option<&'a [u8]> {
     let refused = parting.theirs.outcome == Outcome::Refused(Error::Wire(WireError::InvalidValue));
-    if !refused || parting.transfer().is_information() || reply.len() < 9 || specifier(reply) != 0 {
-        return None;
-    }
-    if (service(reply) == EMERGENCY) != of_emergency {
-        return None;
-    }
+    parting.last_reply().filter(|reply| refused && reply.len() > 8 && !parting.transfer().is_information())
+}
+
+/// Any other specifier but 4 is judged alike: the Rust is asked again with 2.
+fn specifier_0<'a>(parting: &Parting<'a>) -> Option<Instead<'a>> {
+    unlisted(parting).filter(|reply| specifier(reply) == 0 && !is_emergency(reply))?;
     let mut transfer = parting.transfer().clone();
     transfer.replies[parting.theirs.ran.judged - 1][8] |= 2 << 5;
     Some(Instead::Asked(Asked { transfer: Cow::Owned(transfer), ..*parting.asked }))
 }
 
-fn specifier_0<'a>(parting: &Parting<'a>) -> Option<Instead<'a>> {
-    with_specifier_2(parting, false)
-}
-
-fn emergency_with_specifier_0<'a>(parting: &Parting<'a>) -> Option<Instead<'a>> {
-    with_specifier_2(parting, true)
+/// The Rust looks for a specifier in the code's low byte. It is given one that it lists, so that it comes to its assertion.
+fn byte_8_of_an_emergency<'a>(parting: &Parting<'a>) -> Option<Asked<'a>> {
+    let refused = unlisted(parting).filter(|reply| is_emergency(reply) && reply.len() >= LEAST);
+    let so = refused.is_some() && !parting.asked.emergencies_have_a_specifier;
+    so.then(|| Asked { emergencies_have_a_specifier: true, ..parting.asked.clone() })
 }
 
 fn panicked(parting: &Parting<'_>, text: &str) -> bool {
@@ -83,17 +84,16 @@ fn panicked(parting: &Parting<'_>, text: &str) -> bool {
 /// The reply at which the Rust's assertion against emergencies failed.
 fn asserted<'a>(parting: &Parting<'a>) -> Option<&'a [u8]> {
     let reply = parting.last_reply()?;
-    (panicked(parting, "assertion") && !parting.transfer().is_information() && service(reply) == EMERGENCY).then_some(reply)
+    (panicked(parting, "assertion") && !parting.transfer().is_information() && is_emergency(reply)).then_some(reply)
 }
 
 fn emergency<'a>(parting: &Parting<'a>) -> Option<Instead<'a>> {
-    let reply = asserted(parting).filter(|reply| reply.len() >= 20)?;
-    let code = u32::from(reply[12]) | u32::from(reply[13]) << 8;
-    parting.ending(End::Over { number: 0x21, code, index: 0, sub: reply[14] })
+    let reply = asserted(parting).filter(|reply| reply.len() >= LEAST)?;
+    parting.ending(told(reply))
 }
 
 fn short_emergency<'a>(parting: &Parting<'a>) -> Option<Instead<'a>> {
-    asserted(parting).filter(|reply| (12..20).contains(&reply.len()))?;
+    asserted(parting).filter(|reply| (12..LEAST).contains(&reply.len()))?;
     parting.ending(End::over(0x20))
 }
 

@@ -45,10 +45,13 @@ pub fn aborted(rng: &mut Rng, object: (u16, u8), code: u32) -> Vec<u8> {
     sdo(rng, 10, 0x80, object, &code.to_le_bytes())
 }
 
+/// An emergency as ETG.1000.6 lays it out: code, register and data from byte 8 on, all of them anything. Once in two it has its 16 bytes;
+/// the others are cut, or there are more behind it.
 pub fn emergency(rng: &mut Rng) -> Vec<u8> {
-    let rest = rng.bytes(8);
-    let mut reply = sdo(rng, 10, 0x60, (0, 0), &rest);
-    reply[7] = 0x10;
+    let length = if rng.once_in(2) { 16 } else { 8 + rng.below(14) };
+    let mut reply = header(rng, 10, 3, 1);
+    let rest = rng.bytes(length - reply.len());
+    reply.extend_from_slice(&rest);
     reply
 }
 

@@ -1,6 +1,7 @@
 //! Sweeps: every combination of a few fields of one short reply, in each situation in which a reply is judged.
 use super::replies::set_length;
 use crate::case::Case;
+use crate::fields::EMERGENCY;
 use crate::rng::Rng;
 use crate::transfer::{Kind, Transfer};
 
@@ -68,7 +69,7 @@ fn situation(rng: &mut Rng, number: u64) -> Transfer {
     transfer
 }
 
-/// A reply about 0x1018:01 whose complete size is small. In a segment these seven bytes are data.
+/// A reply about 0x1018:01 whose complete size is small. In a segment these seven bytes are data, and an emergency has others there.
 fn reply(rng: &mut Rng, length: u64) -> Vec<u8> {
     let mut reply = b"\x0a\0\0\0\0\x13\0\x30\0\x18\x10\x01".to_vec();
     reply.extend_from_slice(&[rng.pick(&[0, 1, 2, 4, 8, 9]), 0, 0, 0]);
@@ -98,6 +99,9 @@ pub fn head(rng: &mut Rng, mut place: u64) -> Case {
     put(&mut reply, 5, kind | rng.byte() & 0xf0);
     put(&mut reply, 7, service << 4 | rng.byte() & 0x0f);
     put(&mut reply, 8, byte_8);
+    if service == EMERGENCY {
+        (9..16).for_each(|at| put(&mut reply, at, rng.byte()));
+    }
     transfer.replies.push(reply);
     Case::Transfer(transfer)
 }

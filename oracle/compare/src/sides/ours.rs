@@ -140,7 +140,7 @@ fn leave(desk: &mut Desk, seat: Seat, end: End) -> Result<End, String> {
 
 fn over(refusal: Refusal) -> End {
     match refusal {
-        Refusal::Emergency { code, register } => End::Over { number: 0x21, code: code.into(), index: 0, sub: register },
+        Refusal::Emergency { code, register, data } => End::Emergency { code, register, data },
         Refusal::Aborted { code, index, sub_index } => End::Over { number: 0x22, code: code.into(), index, sub: sub_index },
         other => End::over(other.number()),
     }

@@ -8,7 +8,7 @@ const DATA: usize = 9;
 /// buffer is filled with another byte, so that one of them read as data would show.
 const PUT_IN: [u8; 3] = [0xd2, 0x1c, 0xe9];
 
-/// Whether data have a place in it. Document 01 gives an abort and an emergency one layout, whatever they answer.
+/// Whether data of a segment have a place in it: an abort and an emergency have layouts of their own, whatever they answer.
 pub fn has_data(reply: &[u8]) -> bool {
     reply.len() >= DATA && specifier(reply) != ABORT && service(reply) != EMERGENCY
 }
@@ -42,7 +42,7 @@ mod tests {
     fn shorter_replies_aborts_and_emergencies_are_given_as_they_came() {
         let short = ["-", "03", "0300000000130030"];
         let aborts = ["030000000013003081", "0a000000001300308018100100000305"];
-        let emergencies = ["030000000013001001", "0a00000000130010001810013412560000000000"];
+        let emergencies = ["0a0000000013001010", "0a000000001300101042080102030405"];
         for reply in short.iter().chain(&aborts).chain(&emergencies) {
             assert_eq!(given(reply), *reply);
         }

@@ -1,5 +1,6 @@
 //! The Rust's side: the published code, and its outcome in document 01's terms.
 use super::shifted::shifted;
+use crate::emergency::is_emergency;
 use crate::ran::{End, Ran, Read};
 use crate::transfer::{size_of, Kind, Transfer, FILL};
 use ethercrab::error::{Error, MailboxError, PduError};
@@ -11,7 +12,8 @@ use std::borrow::Cow;
 /// The published capacity of the information loop's buffer.
 pub const PUBLISHED_CAPACITY: usize = 131_070;
 
-/// What the Rust is asked: the transfer, and how far its own sizes give way to the lent N, and its place of segment data to ours.
+/// What the Rust is asked: the transfer, and how far its own sizes give way to the lent N, and its reading of byte 8 and its place of
+/// segment data to ours.
 #[derive(Debug, Clone)]
 pub struct Asked<'a> {
     pub transfer: Cow<'a, Transfer>,
@@ -21,21 +23,41 @@ pub struct Asked<'a> {
     pub number_is_lent: bool,
     /// Segment replies are given with their data where the Rust takes them.
     pub segments_are_shifted: bool,
+    /// Emergencies are given with a specifier in byte 8 that the Rust lists.
+    pub emergencies_have_a_specifier: bool,
 }
 
 impl<'a> Asked<'a> {
     pub fn plainly(transfer: &'a Transfer) -> Asked<'a> {
-        Asked { transfer: Cow::Borrowed(transfer), capacity_is_lent: false, number_is_lent: false, segments_are_shifted: false }
+        Asked {
+            transfer: Cow::Borrowed(transfer),
+            capacity_is_lent: false,
+            number_is_lent: false,
+            segments_are_shifted: false,
+            emergencies_have_a_specifier: false,
+        }
     }
 
     /// A reply, counted from 0, as the Rust is given it.
     pub fn given(&self, number: usize) -> Cow<'_, [u8]> {
         let reply = &self.transfer.replies[number];
+        if self.emergencies_have_a_specifier && is_emergency(reply) {
+            return Cow::Owned(with_a_specifier(reply));
+        }
         match self.segments_are_shifted && number > 0 {
             true => Cow::Owned(shifted(reply)),
             false => Cow::Borrowed(reply),
         }
     }
+}
+
+/// An upload's specifier: which of those that the Rust lists plays no part, since its assertion comes next.
+fn with_a_specifier(emergency: &[u8]) -> Vec<u8> {
+    let mut given = emergency.to_vec();
+    if let Some(byte_8) = given.get_mut(8) {
+        *byte_8 = *byte_8 & 0x1f | 2 << 5;
+    }
+    given
 }
 
 #[derive(Debug, Clone)]

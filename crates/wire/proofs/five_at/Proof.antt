@@ -1,0 +1,24 @@
+-- `wire::five_at` meets its contract: four bytes and one make five, and past the end all of them count as 0.
+use borrow.Author.Needs.{needs}
+use mathlib.Core.Path.{_≡_, sym}
+use Prim.Native.Nat.{_+_}
+use denote.Ref.{now}
+use native.Mathlib.Omega.{arith}
+use Rattle.wire.proofs.Bytes.{past-end}
+use Rattle.wire.proofs.five_at.Statement.{statement}
+use Rattle.wire.proofs.five_at.Tie as tie
+
+returns : tie.Need-returns
+returns c =
+    let i = c .before .before .before .before .before .args .i in
+    let e : i + 1 + 1 + 1 + 1 ≡ i + 4 = omega arith in
+    rw e (omega arith)
+
+returns-2 : tie.Need-returns-2
+returns-2 c =
+    let a = c .before .before .args in
+    sym (past-end 5 (now (a .s)) (a .i) (c .if1 .left))
+
+pub five-at-spec : {M : Type 1} → statement M
+five-at-spec =
+    tie.close (tie.spec (λ c κs. tt) (λ c. search needs) (λ c κs. tt) (λ c κs. search needs) returns returns-2)
