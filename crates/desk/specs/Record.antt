@@ -30,13 +30,13 @@ pairOf s = (s .seat, s .transfer)
 abbrev pub slotOf : ℕ × Transfer → Slot
 slotOf q = record { seat = q .0; transfer = q .1 }
 
--- what stands in the slots behind the line
+-- what stands in the slots behind the line: no object, and nothing is due
 abbrev pub blankOf : Slot
 blankOf = record {
   seat = 0;
   transfer = record {
-    order = record { kind = 0; sub = 0; index = 0; value = 0; len = 0; budget = 0 };
-    stage = 0;
+    order = record { kind = 0; sub = 0; index = 0xffff; value = 0; len = 0; budget = 0 };
+    stage = 0xff;
     toggle = 0;
     left = 0;
     sum = 0;

@@ -23,6 +23,33 @@ pub struct Change {
     pub kept: bool,
 }
 
+// The same change. The answer is put together field by field: of a copied one the compiler clears the bytes behind the number in memory
+// of its own, and copies them from there.
+pub(crate) fn apart(change: Change) -> Change
+    ensures { λ r. ⌜ r ≡ change ⌝ }
+{
+    let told = change.answer;
+    let answer = Answer {
+        number: told.number,
+        sub: told.sub,
+        index: told.index,
+        code: told.code,
+        length: told.length,
+        data: told.data,
+    };
+    let slot = change.slot;
+    Change {
+        answer,
+        first: change.first,
+        last: change.last,
+        at: change.at,
+        slot,
+        waiting: change.waiting,
+        counter: change.counter,
+        kept: change.kept,
+    }
+}
+
 // Nothing changes: a refusal.
 pub fn stays(number: u8) -> Change
     ensures { λ r. ⌜ r ≡ staysAt number ⌝ }

@@ -2,6 +2,7 @@
 // one step of line's desk with the CoE machine. Here: the record and the calls, each with what it changes; in the module record the
 // slots, in the module change what a change is.
 use change::Change;
+use change::apart;
 use change::changed;
 use change::closes;
 use change::heads;
@@ -152,6 +153,13 @@ impl Desk {
 
     // What `leave` changes.
     pub fn leaving(self, seat: u8) -> Change
+        requires { ⌜ Good self ⌝ }
+        ensures { λ r. ⌜ Changes self (Call.leave seat) r ⌝ }
+    {
+        apart(self.vacating(seat))
+    }
+
+    fn vacating(self, seat: u8) -> Change
         requires { ⌜ Good self ⌝ }
         ensures { λ r. ⌜ Changes self (Call.leave seat) r ⌝ }
     {

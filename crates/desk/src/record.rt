@@ -30,20 +30,21 @@ pub(crate) fn refusal_of(whose: Turn) -> u8
     }
 }
 
+// Not all zeros: those the compiler would first write to memory of its own.
 pub(crate) fn blank() -> Slot
     ensures { λ r. ⌜ r ≡ blankOf ⌝ }
 {
     let order = Order {
         kind: 0,
         sub: 0,
-        index: 0,
+        index: 0xffff,
         value: 0,
         len: 0,
         budget: 0,
     };
     let transfer = Transfer {
         order,
-        stage: 0,
+        stage: 0xff,
         toggle: 0,
         left: 0,
         sum: 0,

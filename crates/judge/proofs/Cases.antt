@@ -46,8 +46,8 @@ there size from len =
 -- what holds of an SDO reply that is refused or raises an alarm
 pub record Alarming (P : Verdict → Type 0) : Type 0 where
   pub refused : P (Refused 0x20)
-  pub emergency : (code register five : ℕ) → P (Emergency code register five)
-  pub aborted : (code index sub : ℕ) → P (Aborted code index sub)
+  pub emergency : (message : ℕ) → P (Emergency message)
+  pub aborted : (sub index code : ℕ) → P (Aborted sub index code)
   pub other : P (Refused 0x23)
 
 module _ (P : Verdict → Type 0) where
@@ -61,7 +61,7 @@ module _ (P : Verdict → Type 0) where
 
   emergency-cases : (s : List ℕ) → Alarming P → P (emergencyIn s)
   unfolding emergencyIn
-  emergency-cases s a = either-way (ltb (length s) emergencyLeast) _ _ (a .refused) (a .emergency _ _ _)
+  emergency-cases s a = either-way (ltb (length s) emergencyLeast) _ _ (a .refused) (a .emergency _)
 
   abort-cases : (s : List ℕ) → Alarming P → P (abortIn s)
   unfolding abortIn

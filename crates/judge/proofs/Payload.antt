@@ -48,7 +48,7 @@ module _ (earlier n : ℕ) (s : List ℕ) where
   alarming =
       record {
         refused = refused 0x20 (λ e. omega arith);
-        emergency = λ c r x. nothing (Emergency c r x) refl refl (λ e. omega arith);
+        emergency = λ m. nothing (Emergency m) refl refl (λ e. omega arith);
         aborted = λ c i b. nothing (Aborted c i b) refl refl (λ e. omega arith);
         other = refused 0x23 (λ e. omega arith);
       }
@@ -165,7 +165,7 @@ unfolding answerOf
 whole-alarms s =
     record {
       refused = λ e. absurd (omega arith);
-      emergency = λ c r x e. absurd (omega arith);
+      emergency = λ m e. absurd (omega arith);
       aborted = λ c i b e. absurd (omega arith);
       other = λ e. absurd (omega arith);
     }
@@ -202,7 +202,7 @@ done-below false sum number b e = false≢true (sym b ∙ e)
 pub refused-stores-nothing : (v : Verdict) (s : List ℕ) (at : ℕ) (d : List ℕ) → leb 0x20 (answerOf v .number) ≡ true → stored v s at d ≡ d
 unfolding answerOf stored
 refused-stores-nothing (Refused n) s at d e = sym (laid-nil d at)
-refused-stores-nothing (Emergency c r x) s at d e = sym (laid-nil d at)
+refused-stores-nothing (Emergency m) s at d e = sym (laid-nil d at)
 refused-stores-nothing (Aborted c i b) s at d e = sym (laid-nil d at)
 refused-stores-nothing (Done f p) s at d e = absurd (false≢true e)
 refused-stores-nothing SegmentsFollow s at d e = sym (laid-nil d at)

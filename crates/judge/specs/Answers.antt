@@ -2,9 +2,12 @@
 -- enum, a definition gives this paper's number and values for each of its cases." Assumes nothing.
 use mathlib.Core.Bool.{Bool, false}
 use mathlib.Core.List.{List, [], _∷_}
-use Prim.Native.Nat.{ℕ}
+use Prim.Native.Nat.{ℕ, _-_, _*_}
 use lib.Dec.{eqb}
 use Rattle.wire.specs.Words.{pick, either}
+use Rattle.wire.specs.Fields.{get}
+use Rattle.mailbox.specs.Fields.{Name, place, emergencyCode, errorRegister, emergencyData}
+use Rattle.judge.specs.Places.{messageAt}
 use Rattle.judge.specs.declared.Verdict.{Verdict}
 use Rattle.judge.specs.declared.Verdict.the-variants.{Refused, Emergency, Aborted, Done, SegmentsFollow, Segment, Fragment, ReplyDue}
 use Rattle.judge.specs.declared.Answer.{Answer}
@@ -21,12 +24,24 @@ doneWith p = record { number = 0x00; sub = 0; index = 0; code = 0; length = p; �
 abbrev pub doneOr : Bool → ℕ → ℕ → Answer
 doneOr last sum n = pick last (doneWith sum) (plainOf n)
 
+-- a field of an emergency in its eight bytes
+abbrev pub inMessage : Name → ℕ → ℕ
+inMessage f message = get (record { first = place f .first - 8 * messageAt; width = place f .width }) message
+
 -- "21 emergency: code, register"; document 02, [5]: "Answer 21 now also hands back the five bytes"; "22 aborted: code, index, sub-index";
 -- "01, 02 request due, reply due"
 unfoldable pub answerOf : Verdict → Answer
 answerOf (Refused n) = plainOf n
-answerOf (Emergency code register five) = record { number = 0x21; sub = register; index = 0; code = code; length = 0; «data» = five }
-answerOf (Aborted code index sub) = record { number = 0x22; sub = sub; index = index; code = code; length = 0; «data» = 0 }
+answerOf (Emergency message) =
+    record {
+      number = 0x21;
+      sub = inMessage errorRegister message;
+      index = 0;
+      code = inMessage emergencyCode message;
+      length = 0;
+      «data» = inMessage emergencyData message;
+    }
+answerOf (Aborted sub index code) = record { number = 0x22; sub = sub; index = index; code = code; length = 0; «data» = 0 }
 answerOf (Done from p) = doneWith p
 answerOf SegmentsFollow = plainOf 0x01
 answerOf (Segment from len sum last) = doneOr last sum 0x01

@@ -2,7 +2,7 @@
 -- Assumes nothing.
 use Prim.Native.Nat.{ℕ, _/_}
 use Rattle.wire.specs.Fields.{end}
-use Rattle.mailbox.specs.Fields.{Name, place, listKind, fragmentsLeft, expeditedData, completeSize, abortCode, emergencyData}
+use Rattle.mailbox.specs.Fields.{Name, place, service, listKind, fragmentsLeft, expeditedData, completeSize, abortCode, emergencyData}
 
 -- the byte at which a field of the table begins, and the byte behind it
 abbrev pub startOf : Name → ℕ
@@ -14,6 +14,10 @@ behind f = end (place f) / 8
 -- "Under 12 bytes .. 20."
 abbrev pub sdoLeast : ℕ
 sdoLeast = 12
+
+-- document 02, [5]: "In ETG.1000.6 the error code follows the CoE header"
+abbrev pub messageAt : ℕ
+messageAt = behind service
 
 -- document 02, [5]: "An emergency under 16 bytes is 20"
 abbrev pub emergencyLeast : ℕ

@@ -44,8 +44,8 @@ fresh d = record { begun = false; payload = []; buffer = d }
 -- "the first operation 2 reply" begins the list
 abbrev pub begins : Verdict → Bool
 begins (Refused n) = false
-begins (Emergency code register five) = false
-begins (Aborted code index sub) = false
+begins (Emergency message) = false
+begins (Aborted sub index code) = false
 begins (Done from p) = false
 begins SegmentsFollow = false
 begins (Segment from len sum last) = false
@@ -88,8 +88,8 @@ abbrev pub sumAfter : ℕ → Verdict → ℕ
 sumAfter earlier (Segment from len sum last) = sum
 sumAfter earlier (Fragment from len sum last) = sum
 sumAfter earlier (Refused n) = earlier
-sumAfter earlier (Emergency code register five) = earlier
-sumAfter earlier (Aborted code index sub) = earlier
+sumAfter earlier (Emergency message) = earlier
+sumAfter earlier (Aborted sub index code) = earlier
 sumAfter earlier (Done from p) = earlier
 sumAfter earlier SegmentsFollow = earlier
 sumAfter earlier ReplyDue = earlier

@@ -8,8 +8,8 @@ use Rattle.judge.specs.declared.Verdict.the-variants.{Refused, Emergency
 -- the bytes of the reply that a verdict takes
 abbrev pub taken : Verdict → List ℕ → List ℕ
 taken (Refused n) s = []
-taken (Emergency code register five) s = []
-taken (Aborted code index sub) s = []
+taken (Emergency message) s = []
+taken (Aborted sub index code) s = []
 taken (Done from p) s = part s from p
 taken SegmentsFollow s = []
 taken (Segment from len sum last) s = part s from len

@@ -2,11 +2,9 @@
 use crate::Verdict;
 use crate::places::ABORT_CODE;
 use crate::places::ABORT_LEAST;
-use crate::places::EMERGENCY_CODE;
-use crate::places::EMERGENCY_DATA;
 use crate::places::EMERGENCY_LEAST;
-use crate::places::ERROR_REGISTER;
 use crate::places::INDEX;
+use crate::places::MESSAGE_AT;
 use crate::places::SUB_INDEX;
 ghost use mathlib.Core.Path.{_≡_};
 ghost use Rattle.judge.specs.Alarm.{emergencyIn, abortIn};
@@ -18,11 +16,7 @@ pub(crate) fn emergency(s: &[u8]) -> Verdict
     if s.len() < EMERGENCY_LEAST {
         return Verdict::Refused(0x20);
     }
-    Verdict::Emergency {
-        code: wire::word_at(s, EMERGENCY_CODE),
-        register: wire::byte(s, ERROR_REGISTER),
-        data: wire::five_at(s, EMERGENCY_DATA),
-    }
+    Verdict::Emergency(wire::eight_at(s, MESSAGE_AT))
 }
 
 // Rule 3, of specifier 4. The index and sub-index are the reply's own.
@@ -33,8 +27,8 @@ pub(crate) fn abort(s: &[u8]) -> Verdict
         return Verdict::Refused(0x20);
     }
     Verdict::Aborted {
-        code: wire::long_at(s, ABORT_CODE),
-        index: wire::word_at(s, INDEX),
         sub: wire::byte(s, SUB_INDEX),
+        index: wire::word_at(s, INDEX),
+        code: wire::long_at(s, ABORT_CODE),
     }
 }

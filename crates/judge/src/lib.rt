@@ -23,16 +23,13 @@ pub use upload::judge_upload;
 // A chunk is the reply's len bytes from byte `from` on; sum is the earlier chunks and this one.
 pub enum Verdict {
     Refused(u8),
-    // data: five bytes as one number, the first lowest.
-    Emergency {
-        code: u16,
-        register: u8,
-        data: u64,
-    },
+    // Its eight bytes as one number. With its fields apart, or an abort's in another order, each judge is more than the compiler puts into
+    // its callers, and every reply takes some forty instructions more.
+    Emergency(u64),
     Aborted {
-        code: u32,
-        index: u16,
         sub: u8,
+        index: u16,
+        code: u32,
     },
     Done {
         from: u8,
@@ -105,19 +102,15 @@ pub fn answer_of(verdict: Verdict) -> Answer
 {
     match verdict {
         Verdict::Refused(number) => plain(number),
-        Verdict::Emergency {
-            code,
-            register,
-            data,
-        } => Answer {
+        Verdict::Emergency(message) => Answer {
             number: 0x21,
-            sub: register,
+            sub: (message / 65536 % 256) as u8,
             index: 0,
-            code: code as u32,
+            code: (message % 65536) as u32,
             length: 0,
-            data,
+            data: message / 16777216 % 1099511627776,
         },
-        Verdict::Aborted { code, index, sub } => Answer {
+        Verdict::Aborted { sub, index, code } => Answer {
             number: 0x22,
             sub,
             index,

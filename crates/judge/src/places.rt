@@ -8,11 +8,7 @@ pub(crate) const SDO_LEAST: usize = 12;
 
 pub(crate) const EMERGENCY_LEAST: usize = 16;
 
-pub(crate) const EMERGENCY_CODE: usize = 8;
-
-pub(crate) const ERROR_REGISTER: usize = 10;
-
-pub(crate) const EMERGENCY_DATA: usize = 11;
+pub(crate) const MESSAGE_AT: usize = 8;
 
 pub(crate) const ABORT_LEAST: usize = 16;
 

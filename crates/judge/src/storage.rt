@@ -9,15 +9,11 @@ pub fn store(verdict: Verdict, s: &[u8], buffer: &mut [u8], at: usize)
 {
     match verdict {
         Verdict::Refused(_) => {}
-        Verdict::Emergency {
-            code: _,
-            register: _,
-            data: _,
-        } => {}
+        Verdict::Emergency(_) => {}
         Verdict::Aborted {
-            code: _,
-            index: _,
             sub: _,
+            index: _,
+            code: _,
         } => {}
         Verdict::Done { from, len } => {
             wire::store_chunk(s, from as usize, len as usize, buffer, at)

@@ -27,8 +27,8 @@ download-alone index sub e f s d = refl
 pub same-number : (kind : ℕ) (v : Verdict) → toldOf kind v .number ≡ answerOf v .number
 unfolding toldOf answerOf
 same-number kind (Refused n) = refl
-same-number kind (Emergency code register five) = refl
-same-number kind (Aborted code index sub) = refl
+same-number kind (Emergency message) = refl
+same-number kind (Aborted sub index code) = refl
 same-number kind (Done from p) = refl
 same-number kind SegmentsFollow = refl
 same-number kind (Segment from len sum true) = refl

@@ -9,7 +9,7 @@ use Rattle.mailbox.specs.Numbers.{priorityOf, typeOf, serviceOf, commandOf, ope
 use Rattle.mailbox.specs.Headers.{readMailboxHeader, readCoeHeader, readSdoHeader, readSegmented, readSdoInfo}
 use Rattle.judge.specs.Answers.{plainOf, doneWith, answerOf}
 use Rattle.judge.specs.Headers.{readFront, readHeaders, readSegmentHeaders, readInformationHeaders, wrongType, wrongAddress}
-use Rattle.judge.specs.Alarm.{emergencyIn, abortIn}
+use Rattle.judge.specs.Alarm.{messageIn, emergencyIn, abortIn}
 use Rattle.judge.specs.Chunk.{lacking, chunkAt}
 use Rattle.judge.specs.Reply.{inOrder, replyTo}
 use Rattle.judge.specs.Download.{downloadOf, judgeDownload}
@@ -52,5 +52,5 @@ examples =
     ∷ []
 
 pub examples-hold : map (λ (e : Shown × Shown). e .0) examples ≡ map (λ (e : Shown × Shown). e .1) examples
-unfolding read priorityOf typeOf serviceOf commandOf operationOf readMailboxHeader readCoeHeader readSdoHeader readSegmented readSdoInfo answerOf readFront readHeaders readSegmentHeaders readInformationHeaders wrongType wrongAddress emergencyIn abortIn lacking chunkAt inOrder replyTo downloadOf judgeDownload expeditedOf wholeOf normalOf uploadOf judgeUpload chunkLength segmentOf judgeSegment fragmentAt fragmentOf judgeList stored unjudged verdictFor placeFor begunBy toldOf rulingFor
+unfolding read priorityOf typeOf serviceOf commandOf operationOf readMailboxHeader readCoeHeader readSdoHeader readSegmented readSdoInfo answerOf readFront readHeaders readSegmentHeaders readInformationHeaders wrongType wrongAddress messageIn emergencyIn abortIn lacking chunkAt inOrder replyTo downloadOf judgeDownload expeditedOf wholeOf normalOf uploadOf judgeUpload chunkLength segmentOf judgeSegment fragmentAt fragmentOf judgeList stored unjudged verdictFor placeFor begunBy toldOf rulingFor
 examples-hold = refl

@@ -54,8 +54,8 @@ begunBy kind = pick (eqb kind 8) 1 0
 
 unfoldable pub toldOf : ℕ → Verdict → Answer
 toldOf kind (Refused n) = answerOf (Refused n)
-toldOf kind (Emergency code register five) = answerOf (Emergency code register five)
-toldOf kind (Aborted code index sub) = answerOf (Aborted code index sub)
+toldOf kind (Emergency message) = answerOf (Emergency message)
+toldOf kind (Aborted sub index code) = answerOf (Aborted sub index code)
 toldOf kind (Done from p) = answerOf (Done from p)
 toldOf kind SegmentsFollow = answerOf SegmentsFollow
 toldOf kind (Segment from len sum last) = goesOn last (answerOf (Segment from len sum last)) 0x01 0 len

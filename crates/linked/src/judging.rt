@@ -93,15 +93,11 @@ fn told_of(kind: u8, verdict: Verdict) -> Answer
     let answer = answer_of(verdict);
     match verdict {
         Verdict::Refused(_) => answer,
-        Verdict::Emergency {
-            code: _,
-            register: _,
-            data: _,
-        } => answer,
+        Verdict::Emergency(_) => answer,
         Verdict::Aborted {
-            code: _,
-            index: _,
             sub: _,
+            index: _,
+            code: _,
         } => answer,
         Verdict::Done { from: _, len: _ } => answer,
         Verdict::SegmentsFollow => answer,

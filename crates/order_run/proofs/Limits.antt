@@ -133,7 +133,7 @@ module _ (t u : Transfer) (due : requestDue t ≡ false) where
   next : (v : Verdict) → nextOf t v ≡ some u → Next u v
   unfolding nextOf answerOf requestDue dueOf
   next (Refused k) e = none≢some e
-  next (Emergency c r x) e = none≢some e
+  next (Emergency m) e = none≢some e
   next (Aborted c i b) e = none≢some e
   next (Done f p) e = none≢some e
   next SegmentsFollow e = segment-next (t .sum) refl cc

@@ -128,7 +128,7 @@ data After (t : Transfer) (v : Verdict) (d : Due) : Type 0 where
 after-verdict : (t : Transfer) (v : Verdict) (d : Due) → t .stage ≡ stageOf d → isOver d ≡ false → After t v d
 unfolding nextOf dueAfter isOver
 after-verdict t (verdict.Refused n) d e h = over refl refl
-after-verdict t (verdict.Emergency c r x) d e h = over refl refl
+after-verdict t (verdict.Emergency m) d e h = over refl refl
 after-verdict t (verdict.Aborted c i b) d e h = over refl refl
 after-verdict t (verdict.Done f p) d e h = over refl refl
 after-verdict t verdict.SegmentsFollow d e h = on _ refl refl refl

@@ -3,13 +3,17 @@ use mathlib.Core.Path.{_≡_, refl, ap, _∙_}
 use mathlib.Core.Bool.{Bool, true, false, not}
 use mathlib.Core.List.{List}
 use mathlib.Core.Option.{Option, some}
-use Prim.Native.Nat.{ℕ, _≤_}
+use Prim.Native.Nat.{ℕ, _+_, _/_, _%_, _^_, _≤_}
 use native.Mathlib.Omega.{arith}
 use borrow.Author.Tests.{le-ltb, ltb-false}
-use lib.Dec.{ltb, eqb}
+use lib.Dec.{ltb, eqb, lit≤}
 use lib.ListN.{length}
+use lib.Pow.{shr-shr}
 use Rattle.wire.specs.Words.{pick, both}
+use Rattle.wire.specs.Bytes.{value}
+use Rattle.wire.specs.Fields.{Field, end, get, read}
 use Rattle.wire.proofs.Cases.{by}
+use Rattle.wire.proofs.Bits.{get-below}
 use Rattle.mailbox.specs.Fields.{the, mailboxType, service, specifier, operation}
 use Rattle.mailbox.specs.Numbers as names
 use Rattle.mailbox.specs.Headers.{readMailboxHeader, mailboxHeaderOf, readCoeHeader, coeHeaderOf, readSdoHeader, sdoHeaderOf, readSegmented, segmentedOf, readSdoInfo, sdoInfoOf}
@@ -39,9 +43,9 @@ use Rattle.mailbox.specs.declared.numbers.ListedOpCode.{ListedOpCode}
 use Rattle.mailbox.specs.declared.numbers.ListedOpCode.the-variants as ListedOpCode
 use Rattle.judge.specs.Answers.{answerOf, oneOf}
 use Rattle.judge.specs.Headers.{onMailbox, onCoe, onSdo, onSegmented, onInfo, onFront, readFront, readHeaders, readSegmentHeaders, readInformationHeaders}
-use Rattle.judge.specs.Alarm.{emergencyIn}
+use Rattle.judge.specs.Alarm.{messageIn, emergencyIn}
 use Rattle.judge.specs.declared.Verdict.{Verdict}
-use Rattle.judge.specs.declared.Verdict.the-variants.{Refused}
+use Rattle.judge.specs.declared.Verdict.the-variants.{Refused, Emergency}
 use Rattle.judge.specs.declared.headers.Front.{Front}
 use Rattle.judge.specs.declared.headers.FrontRead.the-variants as FrontRead
 use Rattle.judge.specs.declared.headers.HeadersRead.{HeadersRead}
@@ -120,7 +124,25 @@ module _ {H : Type 0} (none alarmed : H) (f : Front → H) where
   behind-front (MailboxHeaderRead.Header m) CoeHeaderRead.Undecodable = refl
   behind-front (MailboxHeaderRead.Header m) (CoeHeaderRead.Header c) = picked (eqb (names.serviceNumber (c .service)) 1) (frontOf m c)
 
+-- ---- an emergency
+
+-- a field of a number's field
+get-within : (f : Field) (first width x : ℕ) → end f ≤ width
+    → get f (get (record { first = first; width = width }) x) ≡ get (record { first = first + f .first; width = f .width }) x
+get-within f first width x h =
+    get-below f (x / 2 ^ first) width h ∙ ap (λ (y : ℕ). y % 2 ^ f .width) (shr-shr x first (f .first))
+
 module _ (s : List ℕ) where
+  -- "bytes 8-9, register 10, five data bytes"
+  message-told : Tells s (Emergency (messageIn s)) (some (emergency (at 8 9 s) (at 10 10 s) (at 11 15 s)))
+  unfolding messageIn read answerOf
+  message-told =
+      rw (
+        get-within (record { first = 0; width = 16 }) 64 64 (value s) (lit≤ tt),
+        get-within (record { first = 16; width = 8 }) 64 64 (value s) (lit≤ tt),
+        get-within (record { first = 24; width = 40 }) 64 64 (value s) (lit≤ tt),
+      )
+
   -- what is made of the first two headers, by the type and the service that were looked up
   abbrev pub inTurn : {H : Type 0} → H → (MailboxHeader → CoeHeader → H) → ListedType → ListedService → H
   inTurn none make a b = onMailbox (mailboxHeaderOf s a) none λ m. onCoe (coeHeaderOf b) none (make m)
@@ -244,5 +266,5 @@ module _ (s : List ℕ) where
         decoded (λ m c. unlessOne alarmed c (make m c (names.commandOf (the specifier s)))) λ t v et ev.
         rw ev
         (by (eqb (the service s) 1)
-        (λ y. rw (y, e) (line s (under 16 s) _ _ refl))
+        (λ y. rw (y, e) (line s (under 16 s) _ _ message-told))
         (λ n. rw n (third (specifier-look (the specifier s)) make no-third t v λ k ek. p t v k et ek)))

@@ -58,7 +58,7 @@ refusal-listed n a b =
 done-over : (t : Transfer) (v : Verdict) → answerOf v .number ≡ 0x00 → nextOf t v ≡ none
 unfolding answerOf nextOf
 done-over t (verdict.Refused n) h = refl
-done-over t (verdict.Emergency c r x) h = refl
+done-over t (verdict.Emergency m) h = refl
 done-over t (verdict.Aborted c i b) h = refl
 done-over t (verdict.Done f p) h = refl
 done-over t verdict.SegmentsFollow h = absurd (omega arith)

@@ -57,7 +57,7 @@ module _ {o : Order} {w : Standing} {t : Transfer} (S : Stands o w t) where
 done-alone : (v : Verdict) → answerOf v .number ≡ 0x00 → answerOf v ≡ doneWith (answerOf v .length)
 unfolding answerOf
 done-alone (verdict.Refused n) h = λ i. record { number = h i; sub = 0; index = 0; code = 0; length = 0; «data» = 0 }
-done-alone (verdict.Emergency c r x) h = absurd (omega arith)
+done-alone (verdict.Emergency m) h = absurd (omega arith)
 done-alone (verdict.Aborted c i b) h = absurd (omega arith)
 done-alone (verdict.Done f p) h = refl
 done-alone verdict.SegmentsFollow h = absurd (omega arith)

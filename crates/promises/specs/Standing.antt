@@ -114,7 +114,7 @@ verdictOf o w l =
 -- what is due after a verdict, where d was
 unfoldable pub dueAfter : Due → Verdict → Due
 dueAfter d (verdict.Refused number) = nothing
-dueAfter d (verdict.Emergency code register five) = nothing
+dueAfter d (verdict.Emergency message) = nothing
 dueAfter d (verdict.Aborted code index sub) = nothing
 dueAfter d (verdict.Done from p) = nothing
 dueAfter d verdict.SegmentsFollow = segmentRequest

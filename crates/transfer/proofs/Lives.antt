@@ -54,7 +54,7 @@ advances t u v s stage sum h a o e = record {
 pub went : (t u : Transfer) (v : Verdict) (s : List ℕ) → nextOf t v ≡ some u → Went t u v s
 unfolding nextOf
 went t u (Refused k) s e = none≢some e
-went t u (Emergency c r x) s e = none≢some e
+went t u (Emergency m) s e = none≢some e
 went t u (Aborted c i b) s e = none≢some e
 went t u (Done f p) s e = none≢some e
 went t u SegmentsFollow s e =

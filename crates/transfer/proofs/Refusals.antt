@@ -36,7 +36,7 @@ last-of false t sum n h e = absurd (false≢true (sym h ∙ e))
 over : (t : Transfer) (v : Verdict) → leb 0x20 (answerOf v .number) ≡ true → nextOf t v ≡ none
 unfolding answerOf nextOf
 over t (Refused n) e = refl
-over t (Emergency c r x) e = refl
+over t (Emergency m) e = refl
 over t (Aborted c i b) e = refl
 over t (Done f p) e = refl
 over t SegmentsFollow e = absurd (false≢true e)

@@ -28,8 +28,8 @@ judgeReply (reply.Fragment begun) sum n s = judgeList begun sum n s
 -- "the answer would be 01 or 02"
 abbrev pub goesOn : Verdict → Bool
 goesOn (Refused number) = false
-goesOn (Emergency code register five) = false
-goesOn (Aborted code index sub) = false
+goesOn (Emergency message) = false
+goesOn (Aborted sub index code) = false
 goesOn (Done from p) = false
 goesOn SegmentsFollow = true
 goesOn (Segment from len sum last) = not last
@@ -59,8 +59,8 @@ unlessLast last t = pick last none (some t)
 -- other than 2: reply due, nothing stored."
 unfoldable pub nextOf : Transfer → Verdict → Option Transfer
 nextOf t (Refused number) = none
-nextOf t (Emergency code register five) = none
-nextOf t (Aborted code index sub) = none
+nextOf t (Emergency message) = none
+nextOf t (Aborted sub index code) = none
 nextOf t (Done from p) = none
 nextOf t SegmentsFollow = some (advancedTo t segmentRequestDue (t .sum))
 nextOf t (Segment from len sum last) = unlessLast last (advancedTo t segmentRequestDue sum)

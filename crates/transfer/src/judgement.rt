@@ -26,15 +26,11 @@ fn goes_on(verdict: Verdict) -> bool
 {
     match verdict {
         Verdict::Refused(_) => false,
-        Verdict::Emergency {
-            code: _,
-            register: _,
-            data: _,
-        } => false,
+        Verdict::Emergency(_) => false,
         Verdict::Aborted {
-            code: _,
-            index: _,
             sub: _,
+            index: _,
+            code: _,
         } => false,
         Verdict::Done { from: _, len: _ } => false,
         Verdict::SegmentsFollow => true,
@@ -106,15 +102,11 @@ pub(crate) fn next(t: Transfer, verdict: Verdict) -> Next
 {
     match verdict {
         Verdict::Refused(_) => Next::Over,
-        Verdict::Emergency {
-            code: _,
-            register: _,
-            data: _,
-        } => Next::Over,
+        Verdict::Emergency(_) => Next::Over,
         Verdict::Aborted {
-            code: _,
-            index: _,
             sub: _,
+            index: _,
+            code: _,
         } => Next::Over,
         Verdict::Done { from: _, len: _ } => Next::Over,
         Verdict::SegmentsFollow => Next::On(advanced(t, SEGMENT_REQUEST, t.sum)),

@@ -7,9 +7,8 @@ use native.Mathlib.Omega.{arith}
 use native.Mathlib.Numerals.{add-one}
 use lib.ListN.{length}
 use Rattle.desk.specs.declared.record.Slot.{Slot}
-use Rattle.desk.specs.Record.{blankOf}
 use Rattle.desk.specs.Change.{moved}
-use Rattle.desk.proofs.Moved.{moved-none, moved-more, length-of-structs}
+use Rattle.desk.proofs.Moved.{unread, moved-none, moved-more, length-of-structs}
 use Rattle.desk.proofs.Held.{held}
 use Rattle.desk.proofs.change.changed.Statement.{statement}
 use Rattle.desk.proofs.change.changed.Tie as tie
@@ -61,7 +60,7 @@ loop-again c =
     let d = b .args .desk in
     let p : b .args .change .first ≤ a .loop .i = a .loop .inv .0 in
     let q : suc (a .loop .i) < length (d .line) = omega (arith, long b, turn (c .before)) in
-    (omega arith, omega arith, rw (a .loop .inv .2, add-one) (ap (λ (l : List Slot). held l (d .waiting) d) (moved-more _ _ _ blankOf p q)))
+    (omega arith, omega arith, rw (a .loop .inv .2, add-one) (ap (λ (l : List Slot). held l (d .waiting) d) (moved-more _ _ _ unread p q)))
 
 mul-slot : tie.Need-mul-slot Inv-loop μ-loop
 mul-slot c = omega (arith, c .before .before .before .before .before .pre .lies)

@@ -8,9 +8,9 @@ use lib.Dec.{ltb}
 use lib.ListN.{drop, length, getD}
 use Rattle.wire.proofs.Cases.{by}
 use Rattle.transfer.specs.declared.Transfer.{Transfer}
-use Rattle.desk.proofs.Moved.{length-of-structs}
+use Rattle.desk.proofs.Moved.{unread, length-of-structs}
 use Rattle.desk.proofs.Held.{place-hit, place-miss, place-none, view-length, view-at}
-use Rattle.desk.specs.Record.{placeIn, viewOf, pairOf, blankOf}
+use Rattle.desk.specs.Record.{placeIn, viewOf, pairOf}
 use Rattle.desk.proofs.record.place.Statement.{statement}
 use Rattle.desk.proofs.record.place.Tie as tie
 
@@ -34,8 +34,8 @@ long c =
     view-length (c .before .args .t1) (omega arith)
 
 at : (c : tie.At-loop Inv-loop μ-loop) → c .loop .i < c .before .args .t1 .waiting
-    → getD (viewOf (c .before .args .t1) .line) (c .loop .i) (pairOf blankOf) .0 ≡ getD (c .before .args .t1 .line) (c .loop .i) blankOf .seat
-at c h = ap (λ (q : ℕ × Transfer). q .0) (view-at (c .before .args .t1) (c .loop .i) blankOf h)
+    → getD (viewOf (c .before .args .t1) .line) (c .loop .i) (pairOf unread) .0 ≡ getD (c .before .args .t1 .line) (c .loop .i) unread .seat
+at c h = ap (λ (q : ℕ × Transfer). q .0) (view-at (c .before .args .t1) (c .loop .i) unread h)
 
 abbrev passed : (a : tie.At-loop Inv-loop μ-loop) → ℕ → Type 0
 passed a m = let l = viewOf (a .before .args .t1) .line in placeIn (a .before .args .seat) l ≡ m + placeIn (a .before .args .seat) (drop m l)
@@ -55,19 +55,19 @@ returns : tie.Need-returns Inv-loop μ-loop
 returns c =
     let a = c .before .before .before .before .before in
     let i = a .loop .i in
-    let z = place-hit (a .before .args .seat) (viewOf (a .before .args .t1) .line) i (pairOf blankOf) (omega (arith, long a, c .if2 .taken)) (c .before .if1 .taken ∙ sym (at a (c .if2 .taken))) in
+    let z = place-hit (a .before .args .seat) (viewOf (a .before .args .t1) .line) i (pairOf unread) (omega (arith, long a, c .if2 .taken)) (c .before .if1 .taken ∙ sym (at a (c .if2 .taken))) in
     omega (arith, z, so-far a i (omega (arith, c .if2 .taken)))
 
 returns-2 : tie.Need-returns-2 Inv-loop μ-loop
 returns-2 c = ended (c .before .before .before .before .before) (c .if2 .left)
 
 missed : (a : tie.At-loop Inv-loop μ-loop) → a .loop .i < a .before .args .t1 .waiting
-    → (a .before .args .seat ≡ getD (a .before .args .t1 .line) (a .loop .i) blankOf .seat → ⊥) → passed a (suc (a .loop .i))
+    → (a .before .args .seat ≡ getD (a .before .args .t1 .line) (a .loop .i) unread .seat → ⊥) → passed a (suc (a .loop .i))
 missed a h z =
     let s = a .before .args .seat in
     let l = viewOf (a .before .args .t1) .line in
     let m : placeIn s (drop (a .loop .i) l) ≡ suc (placeIn s (drop (suc (a .loop .i)) l)) =
-    place-miss s l (a .loop .i) (pairOf blankOf) (omega (arith, long a)) (λ e. z (e ∙ at a h)) in
+    place-miss s l (a .loop .i) (pairOf unread) (omega (arith, long a)) (λ e. z (e ∙ at a h)) in
     omega (arith, m, so-far a (a .loop .i) (omega arith))
 
 in-line : (i n : ℕ) → i < n → suc i ≡ min (i + 1) n

@@ -9,7 +9,8 @@ use native.Mathlib.Omega.{arith}
 use lib.ListN.{getD}
 use Rattle.line.specs.Line.{seated}
 use Rattle.line.proofs.Steps.{head-10, head-12, head-13, head-turn}
-use Rattle.desk.specs.Record.{viewOf, placeIn, pairOf, blankOf}
+use Rattle.desk.specs.Record.{viewOf, placeIn, pairOf}
+use Rattle.desk.proofs.Moved.{unread}
 use Rattle.desk.proofs.Held.{in-line, not-in-line, place-head, place-later, good-length, good-small, good-front}
 use Rattle.desk.proofs.record.whose_turn.Statement.{statement}
 use Rattle.desk.proofs.record.whose_turn.Tie as tie
@@ -30,8 +31,8 @@ returns-2 c =
 taken : (c : tie.Else2) → seated (c .before .before .before .args .seat) (viewOf (c .before .before .before .args .t1) .line) ≡ true
 taken c = in-line _ _ (omega (arith, good-length _ (c .before .before .before .pre)))
 
-front : (c : tie.Else2) → viewOf (c .before .before .before .args .t1) .line ≡ pairOf (getD (c .before .before .before .args .t1 .line) 0 blankOf) ∷ tail (viewOf (c .before .before .before .args .t1) .line)
-front c = good-front _ (c .before .before .before .pre) blankOf (omega arith)
+front : (c : tie.Else2) → viewOf (c .before .before .before .args .t1) .line ≡ pairOf (getD (c .before .before .before .args .t1 .line) 0 unread) ∷ tail (viewOf (c .before .before .before .args .t1) .line)
+front c = good-front _ (c .before .before .before .pre) unread (omega arith)
 
 returns-3 : tie.Need-returns-3
 returns-3 c =
@@ -50,7 +51,7 @@ returns-4 c =
     let a = e .before .before .before in
     let l = viewOf (a .args .t1) .line in
     let p : placeIn (a .args .seat) l ≡ 0 = omega arith in
-    let q = pairOf (getD (a .args .t1 .line) 0 blankOf) in
+    let q = pairOf (getD (a .args .t1 .line) 0 unread) in
     rw (front e, head-turn (a .args .seat) q (tail l) (le-ltb 7 _ (e .before .before .if1 .left)) (place-head _ q (tail l) (rw (front e) at p)))
 
 pub whose-turn-spec : {M : Type 1} → statement M

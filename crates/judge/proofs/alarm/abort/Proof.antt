@@ -17,7 +17,7 @@ returns-2 c =
     let left = c .before .before .before in
     let s = now (left .before .before .args .s) in
     let h : Bytes s = λ i. left .before .shared-slice-known .given i .fits in
-    rw (le-ltb _ _ (left .if1 .left), abort-code-is s h, index-is s h, sub-is s h, ← c .before .before .long-at .ensures, ← c .before .word-at .ensures, ← c .byte .ensures)
+    rw (le-ltb _ _ (left .if1 .left), abort-code-is s h, index-is s h, sub-is s h, ← c .before .before .byte .ensures, ← c .before .word-at .ensures, ← c .long-at .ensures)
 
 pub abort-spec : {M : Type 1} → statement M
 abort-spec = tie.close (tie.spec returns (λ c κs. tt) (λ c κs. tt) (λ c κs. tt) returns-2)

@@ -1,12 +1,12 @@
--- `wire::five_at` meets its contract: four bytes and one make five, and past the end all of them count as 0.
+-- `wire::eight_at` meets its contract: two longs make eight bytes, and past the end all of them count as 0.
 use borrow.Author.Needs.{needs}
 use mathlib.Core.Path.{_≡_, sym}
 use Prim.Native.Nat.{_+_}
 use denote.Ref.{now}
 use native.Mathlib.Omega.{arith}
 use Rattle.wire.proofs.Bytes.{past-end}
-use Rattle.wire.proofs.five_at.Statement.{statement}
-use Rattle.wire.proofs.five_at.Tie as tie
+use Rattle.wire.proofs.eight_at.Statement.{statement}
+use Rattle.wire.proofs.eight_at.Tie as tie
 
 returns : tie.Need-returns
 returns c =
@@ -17,8 +17,8 @@ returns c =
 returns-2 : tie.Need-returns-2
 returns-2 c =
     let a = c .before .before .args in
-    sym (past-end 5 (now (a .s)) (a .i) (c .if1 .left))
+    sym (past-end 8 (now (a .s)) (a .i) (c .if1 .left))
 
-pub five-at-spec : {M : Type 1} → statement M
-five-at-spec =
+pub eight-at-spec : {M : Type 1} → statement M
+eight-at-spec =
     tie.close (tie.spec (λ c κs. tt) (λ c. search needs) (λ c κs. tt) (λ c κs. search needs) returns returns-2)
