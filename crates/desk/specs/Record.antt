@@ -30,18 +30,22 @@ pairOf s = (s .seat, s .transfer)
 abbrev pub slotOf : ℕ × Transfer → Slot
 slotOf q = record { seat = q .0; transfer = q .1 }
 
--- what stands in the slots behind the line: no object, and nothing is due
-abbrev pub blankOf : Slot
-blankOf = record {
+-- a slot of which nothing else is said
+abbrev pub slotWith : ℕ → ℕ → Slot
+slotWith index stage = record {
   seat = 0;
   transfer = record {
-    order = record { kind = 0; sub = 0; index = 0xffff; value = 0; len = 0; budget = 0 };
-    stage = 0xff;
+    order = record { kind = 0; sub = 0; index = index; value = 0; len = 0; budget = 0 };
+    stage = stage;
     toggle = 0;
     left = 0;
     sum = 0;
   };
 }
+
+-- what stands in the slots behind the line: no object, and nothing is due
+abbrev pub blankOf : Slot
+blankOf = slotWith 0xffff 0xff
 
 -- what a record holds: the line in its first slots
 unfoldable pub viewOf : Desk → Queue

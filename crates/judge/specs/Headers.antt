@@ -22,7 +22,7 @@ use Rattle.mailbox.specs.declared.outcome.SdoHeaderSegmentedRead.the-variants a
 use Rattle.mailbox.specs.declared.information.SdoInfoHeader.{SdoInfoHeader}
 use Rattle.mailbox.specs.declared.outcome.SdoInfoHeaderRead.{SdoInfoHeaderRead}
 use Rattle.mailbox.specs.declared.outcome.SdoInfoHeaderRead.the-variants as SdoInfoHeaderRead
-use Rattle.judge.specs.Places.{sdoLeast, segmentLeast}
+use Rattle.judge.specs.Places.{segmentLeast}
 use Rattle.judge.specs.declared.headers.Front.{Front}
 use Rattle.judge.specs.declared.headers.FrontRead.{FrontRead}
 use Rattle.judge.specs.declared.headers.FrontRead.the-variants as FrontRead
@@ -73,7 +73,7 @@ onFront (FrontRead.Front h) none emergency f = f h
 -- "Under 12 bytes, or an unlisted type, service or specifier: 20."
 unfoldable pub readHeaders : List ℕ → HeadersRead
 readHeaders s =
-    onFront (readFront sdoLeast s) HeadersRead.Undecodable HeadersRead.Emergency λ h.
+    onFront (readFront 12 s) HeadersRead.Undecodable HeadersRead.Emergency λ h.
     onSdo (readSdoHeader s) HeadersRead.Undecodable λ d.
     HeadersRead.Headers (record { mailbox = h .mailbox; service = h .service; sdo = d })
 

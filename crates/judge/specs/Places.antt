@@ -11,10 +11,6 @@ startOf f = place f .first / 8
 abbrev pub behind : Name → ℕ
 behind f = end (place f) / 8
 
--- "Under 12 bytes .. 20."
-abbrev pub sdoLeast : ℕ
-sdoLeast = 12
-
 -- document 02, [5]: "In ETG.1000.6 the error code follows the CoE header"
 abbrev pub messageAt : ℕ
 messageAt = behind service

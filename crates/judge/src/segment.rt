@@ -51,12 +51,12 @@ pub fn judge_segment(s: &[u8], earlier: u32, n: u32) -> Verdict
         SegmentHeadersRead::Undecodable => Verdict::Refused(0x20),
         SegmentHeadersRead::Emergency => emergency(s),
         SegmentHeadersRead::Headers(h) => {
+            let mailbox = h.mailbox;
             let header = h.segment;
             let command = header.command;
             if command.number() == 4 {
                 return abort(s);
             }
-            let mailbox = h.mailbox;
             if wrong_type(mailbox) {
                 return Verdict::Refused(0x23);
             }

@@ -10,15 +10,15 @@ use Rattle.wire.proofs.eight_at.Tie as tie
 
 returns : tie.Need-returns
 returns c =
+    let a = c .before .before .args in
+    sym (past-end 8 (now (a .s)) (a .i) (c .if1 .taken))
+
+returns-2 : tie.Need-returns-2
+returns-2 c =
     let i = c .before .before .before .before .before .args .i in
     let e : i + 1 + 1 + 1 + 1 ≡ i + 4 = omega arith in
     rw e (omega arith)
 
-returns-2 : tie.Need-returns-2
-returns-2 c =
-    let a = c .before .before .args in
-    sym (past-end 8 (now (a .s)) (a .i) (c .if1 .left))
-
 pub eight-at-spec : {M : Type 1} → statement M
 eight-at-spec =
-    tie.close (tie.spec (λ c κs. tt) (λ c. search needs) (λ c κs. tt) (λ c κs. search needs) returns returns-2)
+    tie.close (tie.spec returns (λ c κs. tt) (λ c. search needs) (λ c κs. tt) (λ c κs. search needs) returns-2)

@@ -6,33 +6,10 @@ use Rattle.judge.specs.Download.{judgeDownload}
 use Rattle.judge.proofs.download.judge_download.Statement.{statement}
 use Rattle.judge.proofs.download.judge_download.Tie as tie
 
-returns : tie.Need-returns
-unfolding judgeDownload replyTo
-returns c =
-    let opened = c .before .before .before .before .before in
-    rw (← opened .before .before .read-headers .ensures, opened .read .given .1) (search order)
-
-returns-2 : tie.Need-returns-2
-unfolding judgeDownload replyTo
-returns-2 c =
-    let opened = c .before .before .before .before .before .before in
-    rw (← opened .before .before .read-headers .ensures, opened .read .given .1) (search order)
-
-returns-3 : tie.Need-returns-3
-unfolding judgeDownload replyTo
-returns-3 c = simp (← c .before .before .read-headers .ensures, c .enum-told .given .1)
-
-returns-4 : tie.Need-returns-4
-unfolding judgeDownload replyTo
-returns-4 c = simp (← c .before .before .before .read-headers .ensures, c .before .enum-told2 .given .1, ← c .emergency .ensures)
-
-returns-5 : tie.Need-returns-5
-unfolding judgeDownload replyTo
-returns-5 c =
-    let opened = c .before .before .before .before .before .before .before in
-    rw (← opened .before .before .read-headers .ensures, opened .read .given .1) (search order)
-
 pub judge-download-spec : {M : Type 1} → statement M
+unfolding judgeDownload replyTo
 judge-download-spec =
     let rest : tie.Need-enum-told × tie.Need-enum-told-2 × tie.Need-enum-known-read = search needs in
-    tie.close (search (tie.spec, rest, returns, returns-2, returns-3, returns-4, returns-5))
+    let judged : tie.Need-returns × tie.Need-returns-2 × tie.Need-returns-3 × tie.Need-returns-4 × tie.Need-returns-5 =
+    (λ c. search order, λ c. search order, λ c. search order, λ c. search order, λ c. search order) in
+    tie.close (search (tie.spec, rest, judged))
