@@ -18,13 +18,13 @@ pub upload-number : (index sub n : ℕ) (s : List ℕ) → Among uploadNumbers (
 unfolding answerOf
 upload-number index sub n s =
     upload-cases (Among uploadNumbers) s refl (λ from p h. refl) index sub n
-    (record { refused = refl; emergency = λ m. refl; aborted = λ c i b. refl; other = refl }) refl refl
+    (record { refused = refl; emergency = λ m. refl; aborted = λ b i c. refl; other = refl }) refl refl
 
 pub download-number : (index sub : ℕ) (s : List ℕ) → Among downloadNumbers (judgeDownload index sub s)
 unfolding answerOf
 download-number index sub s =
     download-cases (Among downloadNumbers) index sub s
-    (record { refused = refl; emergency = λ m. refl; aborted = λ c i b. refl; other = refl }) refl
+    (record { refused = refl; emergency = λ m. refl; aborted = λ b i c. refl; other = refl }) refl
 
 done-or-on : (l : List ℕ) (last : Bool) (sum number : ℕ) → oneOf l 0x00 ≡ true → oneOf l number ≡ true → oneOf l (doneOr last sum number .number) ≡ true
 done-or-on l true sum number d o = d
@@ -34,7 +34,7 @@ pub segment-number : (earlier n : ℕ) (s : List ℕ) → Among segmentNumbers (
 unfolding answerOf
 segment-number earlier n s =
     segment-cases (Among segmentNumbers) s earlier n refl refl
-    (record { refused = refl; emergency = λ m. refl; aborted = λ c i b. refl; other = refl })
+    (record { refused = refl; emergency = λ m. refl; aborted = λ b i c. refl; other = refl })
     (λ from len last h k. done-or-on segmentNumbers last _ 0x01 refl refl)
 
 pub list-number : (begun : Bool) (earlier n : ℕ) (s : List ℕ) → Among listNumbers (judgeList begun earlier n s)

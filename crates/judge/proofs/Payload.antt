@@ -49,7 +49,7 @@ module _ (earlier n : ℕ) (s : List ℕ) where
       record {
         refused = refused 0x20 (λ e. omega arith);
         emergency = λ m. nothing (Emergency m) refl refl (λ e. omega arith);
-        aborted = λ c i b. nothing (Aborted c i b) refl refl (λ e. omega arith);
+        aborted = λ b i c. nothing (Aborted b i c) refl refl (λ e. omega arith);
         other = refused 0x23 (λ e. omega arith);
       }
 
@@ -166,7 +166,7 @@ whole-alarms s =
     record {
       refused = λ e. absurd (omega arith);
       emergency = λ m e. absurd (omega arith);
-      aborted = λ c i b e. absurd (omega arith);
+      aborted = λ b i c e. absurd (omega arith);
       other = λ e. absurd (omega arith);
     }
 
@@ -203,7 +203,7 @@ pub refused-stores-nothing : (v : Verdict) (s : List ℕ) (at : ℕ) (d : List �
 unfolding answerOf stored
 refused-stores-nothing (Refused n) s at d e = sym (laid-nil d at)
 refused-stores-nothing (Emergency m) s at d e = sym (laid-nil d at)
-refused-stores-nothing (Aborted c i b) s at d e = sym (laid-nil d at)
+refused-stores-nothing (Aborted b i c) s at d e = sym (laid-nil d at)
 refused-stores-nothing (Done f p) s at d e = absurd (false≢true e)
 refused-stores-nothing SegmentsFollow s at d e = sym (laid-nil d at)
 refused-stores-nothing (Segment f k sum l) s at d e = absurd (done-below l sum 0x01 refl e)

@@ -4,7 +4,7 @@
 ghost use mathlib.Core.Path.{_≡_};
 ghost use Rattle.judge.specs.Answers.{plainOf, doneWith, doneOr, answerOf};
 
-pub mod alarm;
+mod alarm;
 pub mod chunk;
 pub mod download;
 pub mod headers;

@@ -134,7 +134,7 @@ module _ (t u : Transfer) (due : requestDue t ≡ false) where
   unfolding nextOf answerOf requestDue dueOf
   next (Refused k) e = none≢some e
   next (Emergency m) e = none≢some e
-  next (Aborted c i b) e = none≢some e
+  next (Aborted b i c) e = none≢some e
   next (Done f p) e = none≢some e
   next SegmentsFollow e = segment-next (t .sum) refl cc
   next (Segment f k sum true) e = none≢some e

@@ -129,7 +129,7 @@ after-verdict : (t : Transfer) (v : Verdict) (d : Due) → t .stage ≡ stageOf 
 unfolding nextOf dueAfter isOver
 after-verdict t (verdict.Refused n) d e h = over refl refl
 after-verdict t (verdict.Emergency m) d e h = over refl refl
-after-verdict t (verdict.Aborted c i b) d e h = over refl refl
+after-verdict t (verdict.Aborted b i c) d e h = over refl refl
 after-verdict t (verdict.Done f p) d e h = over refl refl
 after-verdict t verdict.SegmentsFollow d e h = on _ refl refl refl
 after-verdict t (verdict.Segment f k sum true) d e h = over refl refl

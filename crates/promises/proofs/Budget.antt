@@ -28,7 +28,7 @@ unless-last false sum number h = sym h
 
 alarming : Alarming Numbered
 unfolding answerOf
-alarming = record { refused = refl; emergency = λ m. refl; aborted = λ c i b. refl; other = refl }
+alarming = record { refused = refl; emergency = λ m. refl; aborted = λ b i c. refl; other = refl }
 
 numbered : (r : Reply) (earlier n : ℕ) (s : List ℕ) → Numbered (judgeReply r earlier n s)
 unfolding judgeReply answerOf

@@ -3,17 +3,16 @@ use mathlib.Core.Path.{_≡_, refl, ap, _∙_}
 use mathlib.Core.Bool.{Bool, true, false, not}
 use mathlib.Core.List.{List}
 use mathlib.Core.Option.{Option, some}
-use Prim.Native.Nat.{ℕ, _+_, _/_, _%_, _^_, _≤_}
+use Prim.Native.Nat.{ℕ, _≤_}
 use native.Mathlib.Omega.{arith}
 use borrow.Author.Tests.{le-ltb, ltb-false}
 use lib.Dec.{ltb, eqb, lit≤}
 use lib.ListN.{length}
-use lib.Pow.{shr-shr}
 use Rattle.wire.specs.Words.{pick, both}
 use Rattle.wire.specs.Bytes.{value}
-use Rattle.wire.specs.Fields.{Field, end, get, read}
+use Rattle.wire.specs.Fields.{read}
 use Rattle.wire.proofs.Cases.{by}
-use Rattle.wire.proofs.Bits.{get-below}
+use Rattle.wire.proofs.Bits.{get-within}
 use Rattle.mailbox.specs.Fields.{the, mailboxType, service, specifier, operation}
 use Rattle.mailbox.specs.Numbers as names
 use Rattle.mailbox.specs.Headers.{readMailboxHeader, mailboxHeaderOf, readCoeHeader, coeHeaderOf, readSdoHeader, sdoHeaderOf, readSegmented, segmentedOf, readSdoInfo, sdoInfoOf}
@@ -125,12 +124,6 @@ module _ {H : Type 0} (none alarmed : H) (f : Front → H) where
   behind-front (MailboxHeaderRead.Header m) (CoeHeaderRead.Header c) = picked (eqb (names.serviceNumber (c .service)) 1) (frontOf m c)
 
 -- ---- an emergency
-
--- a field of a number's field
-get-within : (f : Field) (first width x : ℕ) → end f ≤ width
-    → get f (get (record { first = first; width = width }) x) ≡ get (record { first = first + f .first; width = f .width }) x
-get-within f first width x h =
-    get-below f (x / 2 ^ first) width h ∙ ap (λ (y : ℕ). y % 2 ^ f .width) (shr-shr x first (f .first))
 
 module _ (s : List ℕ) where
   -- "bytes 8-9, register 10, five data bytes"

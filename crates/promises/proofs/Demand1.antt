@@ -59,7 +59,7 @@ done-over : (t : Transfer) (v : Verdict) → answerOf v .number ≡ 0x00 → nex
 unfolding answerOf nextOf
 done-over t (verdict.Refused n) h = refl
 done-over t (verdict.Emergency m) h = refl
-done-over t (verdict.Aborted c i b) h = refl
+done-over t (verdict.Aborted b i c) h = refl
 done-over t (verdict.Done f p) h = refl
 done-over t verdict.SegmentsFollow h = absurd (omega arith)
 done-over t (verdict.Segment f k sum true) h = refl

@@ -58,7 +58,7 @@ done-alone : (v : Verdict) → answerOf v .number ≡ 0x00 → answerOf v ≡ do
 unfolding answerOf
 done-alone (verdict.Refused n) h = λ i. record { number = h i; sub = 0; index = 0; code = 0; length = 0; «data» = 0 }
 done-alone (verdict.Emergency m) h = absurd (omega arith)
-done-alone (verdict.Aborted c i b) h = absurd (omega arith)
+done-alone (verdict.Aborted b i c) h = absurd (omega arith)
 done-alone (verdict.Done f p) h = refl
 done-alone verdict.SegmentsFollow h = absurd (omega arith)
 done-alone (verdict.Segment f k sum true) h = refl

@@ -49,7 +49,7 @@ Told kind s v = toldOf kind v ≡ besides kind s (finding v s)
 
 alarms : (kind : ℕ) (s : List ℕ) → Alarming (Told kind s)
 unfolding toldOf answerOf besides
-alarms kind s = record { refused = refl; emergency = λ m. refl; aborted = λ c i b. refl; other = refl }
+alarms kind s = record { refused = refl; emergency = λ m. refl; aborted = λ b i c. refl; other = refl }
 
 upload-told : (kind i b n : ℕ) (s : List ℕ) → Told kind s (judgeUpload i b n s)
 unfolding toldOf answerOf besides

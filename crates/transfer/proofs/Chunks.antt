@@ -40,7 +40,7 @@ module _ (earlier n : ℕ) (s : List ℕ) where
   over h e = absurd (false≢true (sym h ∙ e))
 
   alarming : Alarming AddsOn
-  alarming = record { refused = over refl; emergency = λ m. over refl; aborted = λ c i b. over refl; other = over refl }
+  alarming = record { refused = over refl; emergency = λ m. over refl; aborted = λ b i c. over refl; other = over refl }
 
   adds : {v : Verdict} → Sound earlier n s v → AddsOn v
   adds S e = record { sum = S .sum; fits = S .fits }

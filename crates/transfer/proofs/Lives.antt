@@ -55,7 +55,7 @@ pub went : (t u : Transfer) (v : Verdict) (s : List ℕ) → nextOf t v ≡ some
 unfolding nextOf
 went t u (Refused k) s e = none≢some e
 went t u (Emergency m) s e = none≢some e
-went t u (Aborted c i b) s e = none≢some e
+went t u (Aborted b i c) s e = none≢some e
 went t u (Done f p) s e = none≢some e
 went t u SegmentsFollow s e =
     let h : advancedTo t segmentRequestDue (t .sum) ≡ u = cc in

@@ -37,7 +37,7 @@ over : (t : Transfer) (v : Verdict) → leb 0x20 (answerOf v .number) ≡ true �
 unfolding answerOf nextOf
 over t (Refused n) e = refl
 over t (Emergency m) e = refl
-over t (Aborted c i b) e = refl
+over t (Aborted b i c) e = refl
 over t (Done f p) e = refl
 over t SegmentsFollow e = absurd (false≢true e)
 over t (Segment f k sum last) e = last-of last _ sum 0x01 refl e
