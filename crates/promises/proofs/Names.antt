@@ -5,7 +5,7 @@ use mathlib.Core.List.{List, [], _∷_, map}
 use Prim.Native.Nat.{ℕ, _%_}
 use native.Mathlib.Omega.{arith}
 use Rattle.mailbox.specs.Numbers.{priorityNumber, priorityOf, typeNumber, types, typeOf, serviceNumber, services, serviceOf, commandNumber, commands, commandOf, operationNumber, operations, operationOf}
-use Rattle.mailbox.specs.AbortCodes.{abortNumber, abortCodes, abortOf}
+use Rattle.mailbox.specs.AbortCodes.{abortRows, abortNumbers, abortOf}
 use Rattle.mailbox.specs.Listed.{lookUp}
 use Rattle.mailbox.specs.declared.numbers.Priority.the-variants.{Lowest, Low, High, Highest}
 use Rattle.mailbox.specs.declared.numbers.ListedType.the-variants as ListedType
@@ -13,6 +13,8 @@ use Rattle.mailbox.specs.declared.numbers.ListedService.the-variants as ListedS
 use Rattle.mailbox.specs.declared.numbers.ListedCommand.the-variants as ListedCommand
 use Rattle.mailbox.specs.declared.numbers.ListedOpCode.the-variants as ListedOpCode
 use Rattle.mailbox.specs.declared.abort_code.CoeAbortCode.the-variants.{Unknown}
+use Rattle.mailbox.proofs.Ascending.{ascends}
+use Rattle.mailbox.proofs.AbortCodes.{in-order}
 use Rattle.judge.specs.Answers.{oneOf}
 use Rattle.promises.specs.Names.{NamedAsListed}
 use Rattle.promises.proofs.Lines.{LookIn, missing, present, look}
@@ -37,7 +39,9 @@ named-as-listed = record {
   service = record { by-number = refl; by-name = refl; otherwise = not-found serviceNumber ListedService.Listed _ services };
   specifier = record { by-number = refl; by-name = refl; otherwise = not-found commandNumber ListedCommand.Listed _ commands };
   operation = record { by-number = refl; by-name = refl; otherwise = not-found operationNumber ListedOpCode.Listed _ operations };
-  abort-code = record { by-number = refl; by-name = refl; otherwise = λ n. not-found abortNumber (λ a. a) (Unknown n) abortCodes n };
+  abort-code = record { by-number = refl; by-name = refl; otherwise = λ n. not-found (λ r. r .0) (λ r. r .1) (Unknown n) abortRows n };
   thirty = refl;
+  listed = refl;
+  ordered = ascends abortNumbers in-order;
   unknown = λ n. refl;
 }

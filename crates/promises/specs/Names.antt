@@ -3,10 +3,10 @@
 use mathlib.Core.Path.{_≡_}
 use mathlib.Core.Bool.{false}
 use mathlib.Core.List.{List, [], _∷_, map}
-use Prim.Native.Nat.{ℕ, _%_}
-use lib.ListN.{length}
+use Prim.Native.Nat.{ℕ, _%_, _<_}
+use lib.ListN.{length, getD}
 use Rattle.mailbox.specs.Numbers.{priorityNumber, priorityOf, typeNumber, typeOf, serviceNumber, serviceOf, commandNumber, commandOf, operationNumber, operationOf}
-use Rattle.mailbox.specs.AbortCodes.{abortNumber, abortOf}
+use Rattle.mailbox.specs.AbortCodes.{abortRows, abortNumber, abortOf}
 use Rattle.mailbox.specs.declared.numbers.Priority.{Priority}
 use Rattle.mailbox.specs.declared.numbers.Priority.the-variants.{Lowest, Low, High, Highest}
 use Rattle.mailbox.specs.declared.numbers.MailboxType.{MailboxType}
@@ -50,68 +50,38 @@ operations =
     (1, GetObjectDescriptionListRequest) ∷ (2, GetObjectDescriptionListResponse) ∷ (3, GetObjectDescriptionRequest)
     ∷ (4, GetObjectDescriptionResponse) ∷ (5, GetEntryDescriptionRequest) ∷ (6, GetEntryDescriptionResponse) ∷ (7, SdoInfoErrorRequest) ∷ []
 
--- ETG.1000.6, Table 41, with the words of the Rust's abort_code.rs
+-- ETG.1000.6, Table 41; document 02, [3]: "the numbers and names in one ordered list". docs/ABORT_CODES.md has the words beside them
 abbrev pub abortCodes : List (ℕ × CoeAbortCode)
 abortCodes =
-    -- Toggle bit not changed
     (0x05030000, ToggleBit)
-    -- SDO protocol timeout
     ∷ (0x05040000, SdoTimeout)
-    -- Client/Server command specifier not valid or unknown
     ∷ (0x05040001, InvalidCommand)
-    -- Out of memory
     ∷ (0x05040005, OutOfMemory)
-    -- Unsupported access to an object
     ∷ (0x06010000, UnsupportedAccess)
-    -- Attempt to read to a write only object
     ∷ (0x06010001, WriteOnlyRead)
-    -- Attempt to write to a read only object
     ∷ (0x06010002, ReadOnlyWrite)
-    -- Subindex cannot be written, SI0 must be 0 for write access
     ∷ (0x06010003, IndexOnly)
-    -- SDO Complete access not supported for objects of variable length such as ENUM object types
     ∷ (0x06010004, NoCompleteAccess)
-    -- Object length exceeds mailbox size
     ∷ (0x06010005, ObjectTooLarge)
-    -- Object mapped to RxPDO, SDO Download blocked
     ∷ (0x06010006, DownloadBlocked)
-    -- The object does not exist in the object directory
     ∷ (0x06020000, NotFound)
-    -- The object can not be mapped into the PDO
     ∷ (0x06040041, PdoMappingFailed)
-    -- The number and length of the objects to be mapped would exceed the PDO length
     ∷ (0x06040042, PdoTooSmall)
-    -- General parameter incompatibility reason
     ∷ (0x06040043, Incompatible)
-    -- General internal incompatibility in the device
     ∷ (0x06040047, Internal)
-    -- Access failed due to a hardware error
     ∷ (0x06060000, HardwareFailure)
-    -- Data type does not match, length of service parameter does not match
     ∷ (0x06070010, DataLengthMismatch)
-    -- Data type does not match, length of service parameter too high
     ∷ (0x06070012, DataTooLong)
-    -- Data type does not match, length of service parameter too low
     ∷ (0x06070013, DataTooShort)
-    -- Subindex does not exist
     ∷ (0x06090011, SubIndexNotFound)
-    -- Value range of parameter exceeded (only for write access)
     ∷ (0x06090030, ValueOutOfRange)
-    -- Value of parameter written too high
     ∷ (0x06090031, ValueTooLarge)
-    -- Value of parameter written too low
     ∷ (0x06090032, ValueTooSmall)
-    -- Maximum value is less than minimum value
     ∷ (0x06090036, MaxMin)
-    -- General error
     ∷ (0x08000000, General)
-    -- Data cannot be transferred or stored to the application
     ∷ (0x08000020, TransferFailed)
-    -- Data cannot be transferred or stored to the application because of local control
     ∷ (0x08000021, TransferFailedLocal)
-    -- Data cannot be transferred or stored to the application because of the present device state
     ∷ (0x08000022, InvalidState)
-    -- Object dictionary dynamic generation fails or no object dictionary is present
     ∷ (0x08000023, NoObjectDictionary)
     ∷ []
 
@@ -136,7 +106,9 @@ pub record NamedAsListed : Type 0 where
   pub service : Named services serviceNumber serviceOf ListedService.Listed (λ n. ListedService.Unlisted)
   pub specifier : Named specifiers commandNumber commandOf ListedCommand.Listed (λ n. ListedCommand.Unlisted)
   pub operation : Named operations operationNumber operationOf ListedOpCode.Listed (λ n. ListedOpCode.Unlisted)
-  -- "thirty codes and `Unknown`", which keeps its number
+  -- "thirty codes and `Unknown`"; "one ordered list, looked up by its rule. Each code's answer stays, and `Unknown` keeps its number"
   pub abort-code : Named abortCodes abortNumber abortOf (λ a. a) Unknown
   pub thirty : length abortCodes ≡ 30
+  pub listed : map (λ r. (r .0, r .1)) abortRows ≡ abortCodes
+  pub ordered : (j k : ℕ) → j < k → k < 30 → getD (numbers abortCodes) j 0 < getD (numbers abortCodes) k 0
   pub unknown : (n : ℕ) → abortNumber (Unknown n) ≡ n
