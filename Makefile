@@ -1,7 +1,7 @@
 # The commands of the README: `make test`, `make run` (`make run FILE=x` runs an order file of yours), `make mutants`, `make differential`
-# (CASES=, ORDERS= and SEED= choose how many cases and order files, and which), `make wrong-rules`, `make wireshark`, `make bench` and
-# `make stored`.
-.PHONY: test run mutants differential wrong-rules wireshark bench stored
+# (CASES=, ORDERS= and SEED= choose how many cases and order files, and which), `make wrong-rules`, `make wireshark`, `make bench`,
+# `make stored` and `make abort-codes`.
+.PHONY: test run mutants differential wrong-rules wireshark bench stored abort-codes
 
 test:
 	@tools/test
@@ -28,3 +28,6 @@ bench:
 
 stored:
 	@tools/stored
+
+abort-codes:
+	@tools/abort-codes

@@ -1,8 +1,8 @@
 use core::fmt;
 
-/// The list once: the enum, its numbers both ways and its texts are made from it.
+/// The list once, ascending by number: the enum, its list, its numbers and its texts are made from it.
 macro_rules! abort_codes {
-    ($($name:ident = $number:literal, $text:literal;)*) => {
+    ($($number:literal, $name:ident, $text:literal;)*) => {
         /// Why a drive aborted a transfer: ETG.1000.6, Table 41, by the names of ethercrab's `CoeAbortCode`.
         ///
         /// ```
@@ -19,11 +19,31 @@ macro_rules! abort_codes {
             Unknown(u32),
         }
 
-        impl From<u32> for AbortCode {
-            fn from(number: u32) -> AbortCode {
-                match number {
-                    $($number => AbortCode::$name,)*
-                    number => AbortCode::Unknown(number),
+        impl AbortCode {
+            /// The listed codes, all but `Unknown`, ascending by number: for a host that shows them, as a panel's list of texts.
+            ///
+            /// ```
+            /// use coe_desk::AbortCode;
+            ///
+            /// let texts: Vec<String> =
+            ///     AbortCode::LISTED.iter().map(|&code| format!("{:08x}={}", u32::from(code), code.text().trim())).collect();
+            /// assert_eq!(texts.len(), 30);
+            /// assert_eq!(texts[0], "05030000=Toggle bit not changed");
+            /// ```
+            pub const LISTED: [AbortCode; 30] = [$(AbortCode::$name,)*];
+
+            /// What the code means, in ethercrab's words. Those of `InvalidState` begin with a blank, as there.
+            ///
+            /// ```
+            /// use coe_desk::AbortCode;
+            ///
+            /// assert_eq!(AbortCode::ReadOnlyWrite.text(), "Attempt to write to a read only object");
+            /// assert_eq!(AbortCode::Unknown(7).text(), "Unknown code");
+            /// ```
+            pub const fn text(self) -> &'static str {
+                match self {
+                    $(AbortCode::$name => $text,)*
+                    AbortCode::Unknown(_) => "Unknown code",
                 }
             }
         }
@@ -36,50 +56,51 @@ macro_rules! abort_codes {
                 }
             }
         }
-
-        impl AbortCode {
-            const fn text(self) -> &'static str {
-                match self {
-                    $(AbortCode::$name => $text,)*
-                    AbortCode::Unknown(_) => "Unknown code",
-                }
-            }
-        }
     };
 }
 
 abort_codes! {
-    ToggleBit = 0x0503_0000, "Toggle bit not changed";
-    SdoTimeout = 0x0504_0000, "SDO protocol timeout";
-    InvalidCommand = 0x0504_0001, "Client/Server command specifier not valid or unknown";
-    OutOfMemory = 0x0504_0005, "Out of memory";
-    UnsupportedAccess = 0x0601_0000, "Unsupported access to an object";
-    WriteOnlyRead = 0x0601_0001, "Attempt to read to a write only object";
-    ReadOnlyWrite = 0x0601_0002, "Attempt to write to a read only object";
-    IndexOnly = 0x0601_0003, "Subindex cannot be written, SI0 must be 0 for write access";
-    NoCompleteAccess = 0x0601_0004, "SDO Complete access not supported for objects of variable length such as ENUM object types";
-    ObjectTooLarge = 0x0601_0005, "Object length exceeds mailbox size";
-    DownloadBlocked = 0x0601_0006, "Object mapped to RxPDO, SDO Download blocked";
-    NotFound = 0x0602_0000, "The object does not exist in the object directory";
-    PdoMappingFailed = 0x0604_0041, "The object can not be mapped into the PDO";
-    PdoTooSmall = 0x0604_0042, "The number and length of the objects to be mapped would exceed the PDO length";
-    Incompatible = 0x0604_0043, "General parameter incompatibility reason";
-    Internal = 0x0604_0047, "General internal incompatibility in the device";
-    HardwareFailure = 0x0606_0000, "Access failed due to a hardware error";
-    DataLengthMismatch = 0x0607_0010, "Data type does not match, length of service parameter does not match";
-    DataTooLong = 0x0607_0012, "Data type does not match, length of service parameter too high";
-    DataTooShort = 0x0607_0013, "Data type does not match, length of service parameter too low";
-    SubIndexNotFound = 0x0609_0011, "Subindex does not exist";
-    ValueOutOfRange = 0x0609_0030, "Value range of parameter exceeded (only for write access)";
-    ValueTooLarge = 0x0609_0031, "Value of parameter written too high";
-    ValueTooSmall = 0x0609_0032, "Value of parameter written too low";
-    MaxMin = 0x0609_0036, "Maximum value is less than minimum value";
-    General = 0x0800_0000, "General error";
-    TransferFailed = 0x0800_0020, "Data cannot be transferred or stored to the application";
-    TransferFailedLocal = 0x0800_0021, "Data cannot be transferred or stored to the application because of local control";
+    0x0503_0000, ToggleBit, "Toggle bit not changed";
+    0x0504_0000, SdoTimeout, "SDO protocol timeout";
+    0x0504_0001, InvalidCommand, "Client/Server command specifier not valid or unknown";
+    0x0504_0005, OutOfMemory, "Out of memory";
+    0x0601_0000, UnsupportedAccess, "Unsupported access to an object";
+    0x0601_0001, WriteOnlyRead, "Attempt to read to a write only object";
+    0x0601_0002, ReadOnlyWrite, "Attempt to write to a read only object";
+    0x0601_0003, IndexOnly, "Subindex cannot be written, SI0 must be 0 for write access";
+    0x0601_0004, NoCompleteAccess, "SDO Complete access not supported for objects of variable length such as ENUM object types";
+    0x0601_0005, ObjectTooLarge, "Object length exceeds mailbox size";
+    0x0601_0006, DownloadBlocked, "Object mapped to RxPDO, SDO Download blocked";
+    0x0602_0000, NotFound, "The object does not exist in the object directory";
+    0x0604_0041, PdoMappingFailed, "The object can not be mapped into the PDO";
+    0x0604_0042, PdoTooSmall, "The number and length of the objects to be mapped would exceed the PDO length";
+    0x0604_0043, Incompatible, "General parameter incompatibility reason";
+    0x0604_0047, Internal, "General internal incompatibility in the device";
+    0x0606_0000, HardwareFailure, "Access failed due to a hardware error";
+    0x0607_0010, DataLengthMismatch, "Data type does not match, length of service parameter does not match";
+    0x0607_0012, DataTooLong, "Data type does not match, length of service parameter too high";
+    0x0607_0013, DataTooShort, "Data type does not match, length of service parameter too low";
+    0x0609_0011, SubIndexNotFound, "Subindex does not exist";
+    0x0609_0030, ValueOutOfRange, "Value range of parameter exceeded (only for write access)";
+    0x0609_0031, ValueTooLarge, "Value of parameter written too high";
+    0x0609_0032, ValueTooSmall, "Value of parameter written too low";
+    0x0609_0036, MaxMin, "Maximum value is less than minimum value";
+    0x0800_0000, General, "General error";
+    0x0800_0020, TransferFailed, "Data cannot be transferred or stored to the application";
+    0x0800_0021, TransferFailedLocal, "Data cannot be transferred or stored to the application because of local control";
     // With a blank before it, as ethercrab prints it.
-    InvalidState = 0x0800_0022, " Data cannot be transferred or stored to the application because of the present device state";
-    NoObjectDictionary = 0x0800_0023, "Object dictionary dynamic generation fails or no object dictionary is present";
+    0x0800_0022, InvalidState, " Data cannot be transferred or stored to the application because of the present device state";
+    0x0800_0023, NoObjectDictionary, "Object dictionary dynamic generation fails or no object dictionary is present";
+}
+
+/// The listed code of this number, or `Unknown` with it. The list is in order, so that it is searched by halving.
+impl From<u32> for AbortCode {
+    fn from(number: u32) -> AbortCode {
+        match AbortCode::LISTED.binary_search_by_key(&number, |&code| code.into()) {
+            Ok(place) => AbortCode::LISTED[place],
+            Err(_) => AbortCode::Unknown(number),
+        }
+    }
 }
 
 /// The number in hexadecimal, then what it means: ethercrab's words.
