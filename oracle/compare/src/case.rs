@@ -20,7 +20,7 @@ pub enum Case {
     Frame(Frame),
     /// Every read of a finished payload.
     Payload(Vec<u8>),
-    /// The name of an abort code.
+    /// The name of an abort code, the number that it gives back and the words that it is printed with.
     AbortCode(u32),
     Order(Order),
 }
@@ -133,9 +133,14 @@ fn compare_payload(payload: &[u8]) -> Verdict {
 
 fn compare_abort_code(number: u32) -> Verdict {
     let rust = CoeAbortCode::unpack_from_slice(&number.to_le_bytes()).map_err(|error| format!("Rust: {error:?}"))?;
-    let (here, rust) = (format!("{:?}", AbortCode::from(number)), format!("{rust:?}"));
-    if here != rust {
-        return Err(format!("here: {here}\nRust: {rust}"));
+    let here = AbortCode::from(number);
+    let names = (format!("{here:?}"), format!("{rust:?}"));
+    let numbers = (format!("{:08x}", u32::from(here)), format!("{:08x}", u32::from(rust)));
+    let texts = (here.to_string(), rust.to_string());
+    for (what, (here, rust)) in [("name", names), ("number", numbers), ("text", texts)] {
+        if here != rust {
+            return Err(format!("the {what} here is `{here}`, and in the Rust `{rust}`"));
+        }
     }
     Ok(Vec::new())
 }
