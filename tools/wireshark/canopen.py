@@ -2,6 +2,7 @@
 dissector."""
 import struct
 
+import abort_words
 from frame import Frame
 
 NAME = "CANopen"
@@ -16,6 +17,8 @@ FIELDS = {
     "sdo.main_idx": "index", "sdo.sub_idx": "sub-index", "sdo.abort_code": "abort code",
     "em.err_code": "emergency code", "em.err_reg": "register", "em.err_field": "data",
 }
+# The field whose words, which Wireshark shows beside the number, are compared too.
+WORDED = {"sdo.abort_code": "words"}
 # The CAN frame's number and its parts; the command byte, whose parts are compared one by one; the register's bits, compared as one.
 HOLDERS = {"cob_id", "function_code", "node_id", "sdo.cmd", *(f"em.err_reg_{bit}" for bit in "ge cu vo te co de re ma".split())}
 # The rows of docs/DIFFERENCES.md that hold for this dissector too: it names the unused count and shows all seven bytes.
@@ -51,8 +54,11 @@ def judged(frame):
 
 
 def on_can(frame):
-    otherwise = {part: row for part, row in frame.otherwise.items() if row[0] in ROWS}
-    return OnCan(f"{frame.kind}, on CAN", known(frame.asked), otherwise, mailbox=frame.mailbox, ours=judged(frame))
+    asked, otherwise = known(frame.asked), {part: row for part, row in frame.otherwise.items() if row[0] in ROWS}
+    if "abort code" in asked:
+        asked.update(abort_words.asked(asked["abort code"]))
+        otherwise.update(abort_words.otherwise(asked["abort code"]))
+    return OnCan(f"{frame.kind}, on CAN", asked, otherwise, mailbox=frame.mailbox, ours=judged(frame))
 
 
 def is_on_can(frame):

@@ -22,6 +22,8 @@ FIELDS = {
     "coe.sdoinfoopcode": "operation", "coe.sdoinfofrag": "fragments left", "coe.sdoinfolisttype": "list kind",
     "coe.sdoinfolist": "data", "coe.sdoinfoerrorcode": "abort code",
 }
+# Of none of them are Wireshark's own words compared.
+WORDED = {}
 # These hold others, which are compared one by one.
 HOLDERS = {"coe", "coe.sdoccsid", "coe.sdoccsiu", "coe.sdoccsus", "coe.sdoscsiu", "coe.sdoscsus"}
 

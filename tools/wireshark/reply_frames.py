@@ -5,6 +5,7 @@ import pathlib
 import struct
 
 import judged
+from abort_words import ONLY_THEIRS
 from frame import Frame, flags, header
 from request_frames import COUNTERS, DATA, SUBS, WORDS
 
@@ -149,7 +150,7 @@ def replies():
     for index, sub in PLACES:
         yield download(index, sub)
     listed = [int(line.split()[0], 16) for line in ABORT_CODES.read_text().splitlines() if not line.startswith("#")]
-    for code, service in itertools.product([*listed, *(1 << bit for bit in range(32))], (REQUEST, REPLY)):
+    for code, service in itertools.product([*listed, *ONLY_THEIRS, *(1 << bit for bit in range(32))], (REQUEST, REPLY)):
         yield abort(0x2000, 5, code, service)
     for length, toggle, last in itertools.product((*range(16), 100), (0, 1), (0, 1)):
         yield segment(toggle, last, counting(length))

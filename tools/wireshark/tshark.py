@@ -30,6 +30,8 @@ def reading(reader, packet, wire):
             read["data"] = bytes_of(field, wire)
         elif name in reader.FIELDS:
             read[reader.FIELDS[name]] = int(field.get("show"), 0)
+            if name in reader.WORDED:
+                read[reader.WORDED[name]] = words_of(field)
         elif name and name not in reader.HOLDERS and not MARK.match(name):
             read[f"{name}, a field of Wireshark's that {reader.__name__}.py does not list"] = field.get("show")
     return read
@@ -39,6 +41,12 @@ def bytes_of(field, wire):
     """The bytes that the field stands for, or None where there are none."""
     at, size = int(field.get("pos")), int(field.get("size"))
     return wire[at:at + size] or None
+
+
+def words_of(field):
+    """The words between the field's name and its number, or None where Wireshark has none for this number."""
+    words = re.fullmatch(r"[^:]*: (.*) \(0x[0-9a-f]+\)", field.get("showname")).group(1)
+    return None if words == "Unknown" else words
 
 
 def dissect(reader, wires, work):
