@@ -19,7 +19,7 @@ extern "C" {
 
 /* An answer: `number`, and the values that go with it. 0x00: `length` is the payload's length. 0x21, emergency: `code`, the error
  * register in `sub`, and the drive's five bytes in `data`, the first lowest: in memory they are its first five bytes. 0x22, aborted:
- * `code`, `index`, `sub`. What a number does not name is 0. An answer has 24 bytes. */
+ * `code`, for whose words see docs/ABORT_CODES.md, `index`, `sub`. What a number does not name is 0. An answer has 24 bytes. */
 typedef struct {
     uint8_t number;
     uint8_t sub;
