@@ -231,7 +231,58 @@ static int overtemperature(void) {
     return 0;
 }
 
+/* A request of seat 0, and its reply's number. */
+static uint8_t exchanged(coe_desk *desk, const char *hex) {
+    uint8_t frame[16], data[8], reply[16];
+    size_t size = bytes_of(hex, reply);
+    uint8_t sent = coe_desk_send(desk, 0, frame, 16).number;
+    return sent == 0x02 ? coe_desk_receive(desk, 0, reply, size, data, sizeof data).number : sent;
+}
+
+/* A faulty drive announces segments and sends empty ones: the default budget ends that with the 1024th reply, the 1023rd segment. Where
+ * that one is the last, the transfer is done. */
+static int faulty_drive(void) {
+    static const char *const ends[2] = {"030000000013003000", "030000000013003001"};
+    static const uint8_t numbers[2] = {0x27, 0x00};
+    coe_desk desk;
+    coe_desk_fresh(&desk);
+    for (int i = 0; i < 2; i++) {
+        EXPECT("enter", 0x01, coe_desk_enter(&desk, 0, 1, 0x1018, 1, NULL, 0).number);
+        EXPECT("segments follow", 0x01, exchanged(&desk, "0a000000001300304118100108000000"));
+        for (int reply = 2; reply < COE_DESK_DEFAULT_BUDGET; reply++)
+            EXPECT("an empty segment", 0x01, exchanged(&desk, "030000000013003000"));
+        EXPECT("the 1024th reply", numbers[i], exchanged(&desk, ends[i]));
+        EXPECT("the seat is free", 0x12, coe_desk_leave(&desk, 0).number);
+    }
+    return 0;
+}
+
+/* 1025 indices through a mailbox of 16 bytes, one in each fragment: the 1025th reply is the last. */
+static int small_mailbox(void) {
+    static uint8_t data[2050];
+    coe_desk desk;
+    coe_answer a;
+    uint8_t frame[16], first[16], more[16], last[16];
+    bytes_of("0a000000001300808200000001001810", first);
+    bytes_of("0a00000000130080820000001810", more);
+    bytes_of("0a00000000130080020000006060", last);
+    coe_desk_fresh(&desk);
+    EXPECT("enter without a budget", 0x01, coe_desk_enter(&desk, 0, 4, 1, 0, NULL, 0).number);
+    EXPECT("and with one", 0x01, coe_desk_enter_within(&desk, 1, 4, 1, 0, NULL, 0, 65535).number);
+    for (uint8_t seat = 0; seat < 2; seat++) {
+        EXPECT("send", 0x02, coe_desk_send(&desk, seat, frame, 16).number);
+        for (int reply = 1; reply < 1024; reply++)
+            EXPECT("a fragment", 0x02, coe_desk_receive(&desk, seat, reply == 1 ? first : more, reply == 1 ? 16 : 14, data, sizeof data).number);
+        EXPECT("the 1024th", seat == 0 ? 0x27 : 0x02, coe_desk_receive(&desk, seat, more, 14, data, sizeof data).number);
+    }
+    a = coe_desk_receive(&desk, 1, last, 14, data, sizeof data);
+    EXPECT("the last", 0x00, a.number);
+    EXPECT("the list's length", 2050, a.length);
+    EXPECT("its last index", 0x6060, coe_list_item(data, sizeof data, 2048).index);
+    return 0;
+}
+
 int examples(void) {
     return frames() || replies() || emergencies() || short_segments() || lists() || values() || turns() || drive_name()
-           || overtemperature();
+           || overtemperature() || faulty_drive() || small_mailbox();
 }

@@ -178,7 +178,9 @@ def quantities(payload):
 
 # ---- the order program: what it prints for a text
 
-LONGEST, SPACE, BUDGET = 1486, 4096, 65535
+LONGEST, SPACE = 1486, 4096
+# document 02, [12]: "The default in the programs and in the linked functions that name no budget becomes 1,024."
+DEFAULT_BUDGET = 1024
 DIGITS = set(b"0123456789abcdef")
 
 
@@ -201,7 +203,7 @@ class Order:
         if form in ("01", "03"):
             self.sub, self.data = entry[3], entry[4:]
         self.kind = entry[1] if form == "04" else 0
-        self.counter, self.toggle, self.left, self.payload = 1, 0, BUDGET, b""
+        self.counter, self.toggle, self.left, self.payload = 1, 0, DEFAULT_BUDGET, b""
         self.segments = self.begun = False
 
     def request(self):

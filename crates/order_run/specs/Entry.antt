@@ -16,7 +16,7 @@ use Rattle.order_run.specs.declared.entry.Form.the-variants.{Listed, Unl
 unfoldable pub isForm : ℕ → ℕ → ℕ → List ℕ → Bool
 isForm form least most s = pick (eqb (byteAt s 0) form) (pick (ltb (length s) least) false (leb (length s) most)) false
 
--- "budget 65,535, the default"
+-- an order file names no budget, so that each order, a list's too, has the default
 abbrev pub orderWith : ℕ → ℕ → ℕ → ℕ → ℕ → Order
 orderWith kind sub index value len =
     record { kind = kind; sub = sub; index = index; value = value; len = len; budget = defaultBudget }

@@ -3,13 +3,14 @@ use Prim.Native.Nat.{ℕ}
 use mathlib.Core.Path.{_≡_, refl}
 use mathlib.Core.List.{List, [], _∷_, map}
 use Rattle.wire.specs.Bytes.{hex}
+use Rattle.transfer.specs.Entry.{defaultBudget}
 use Rattle.order_run.specs.declared.entry.Form.{Form}
 use Rattle.order_run.specs.declared.entry.Form.the-variants.{Listed, Unlisted}
 use Rattle.order_run.specs.Entry.{isForm, formOf}
 use Rattle.order_run.specs.Printed.{linesIn}
 
 abbrev order : ℕ → ℕ → ℕ → ℕ → ℕ → Form
-order kind sub index value len = Listed (record { kind = kind; sub = sub; index = index; value = value; len = len; budget = 65535 })
+order kind sub index value len = Listed (record { kind = kind; sub = sub; index = index; value = value; len = len; budget = defaultBudget })
 
 unfoldable pub entries : List (Form × Form)
 entries =

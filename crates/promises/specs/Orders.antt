@@ -42,8 +42,8 @@ Fit o = firstOf {A = ℕ} (unfit o) ≡ none
 pub record Defaults : Type 0 where
   -- "A fresh desk sends 1"
   pub counter : firstCounter ≡ 1
-  -- "budget 65,535, the default"
-  pub budget : defaultBudget ≡ 65535
+  -- document 02, [12]: "The default in the programs and in the linked functions that name no budget becomes 1,024."
+  pub budget : defaultBudget ≡ 1024
 
 -- ---- the first request and its reply
 

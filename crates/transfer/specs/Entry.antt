@@ -11,9 +11,9 @@ use Rattle.transfer.specs.declared.Transfer.{Transfer}
 use Rattle.transfer.specs.declared.entry.Kind.{Kind}
 use Rattle.transfer.specs.declared.entry.Kind.the-variants.{Upload, Download, ObjectList, Quantities, Unlisted}
 
--- "budget 65,535, the default"
+-- document 02, [12]: "The default in the programs and in the linked functions that name no budget becomes 1,024."
 abbrev pub defaultBudget : ℕ
-defaultBudget = 65535
+defaultBudget = 1024
 
 -- the kinds by number; "Complete access sets its bit and sub-index 1", whatever sub-index the order has
 unfoldable pub kindOf : ℕ → ℕ → Kind

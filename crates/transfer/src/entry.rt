@@ -6,8 +6,8 @@ use mailbox::sub_index::SubIndex;
 ghost use mathlib.Core.Path.{_≡_};
 ghost use Rattle.transfer.specs.Entry.{kindOf, outside, unfitOf, openedOf};
 
-// "budget 65,535, the default"
-pub const DEFAULT_BUDGET: u16 = 65535;
+// Document 02, [12]: "The default in the programs and in the linked functions that name no budget becomes 1,024."
+pub const DEFAULT_BUDGET: u16 = 1024;
 
 pub enum Kind {
     Upload(SubIndex),

@@ -18,7 +18,7 @@ use contract.Lifetimes.{Lfts, Shares}
 use contract.Running.{givenOf}
 use types.Kit.{Given, ‵, raw, _⊛_, some, later, _$_, _∵_, !, qed, move, drop, use1, split, pick, fsplit, fjoin, updating}
 use types.Kit.{now as at-once, show, frame, await, done}
-use types.Run.{look, init, stop, hop, from, neg-lit, addr, and-then, no-more, assigns}
+use types.Run.{look, init, stop, hop, from, addr, and-then, no-more, assigns}
 use denote.RattleType.{owns}
 use denote.Laws.{Is}
 use denote.Plain.{uint-makes}
@@ -34,7 +34,7 @@ use Rattle.transfer.specs.Entry.{defaultBudget}
 use Rattle.desk.proofs.Desk as T
 use Rattle.judge.proofs.Answer as E
 use Rattle.judge.proofs.Answer.Laws as E′
-use Rattle.lent.proofs.Closing.{Params, number, lent, slice, here, returned, bound, closed}
+use Rattle.lent.proofs.Closing.{Params, number, lent, slice, here, large, returned, bound, closed}
 use Rattle.lent.proofs.enter as core
 use Rattle.lent.proofs.enter.Met as core-thm
 use Rattle.linked.proofs.lending.coe_desk_enter.Key.{name as #self}
@@ -115,4 +115,4 @@ coe-desk-enter-spec 𝓤 H 𝓜 𝓖 𝓡 =
     (_ ∷ _ ∷ _ ∷ _ ∷ _ ∷ _ ∷ _ ∷ []) refl
     (and-then ! (here ! 1 refl) (and-then ! (here ! 11 refl) (and-then ! (here ! 9 refl)
     (and-then ! (here ! 7 refl) (and-then ! (here ! 5 refl)
-    (and-then ! (here ! 3 refl) (and-then ! (neg-lit ! tt) (no-more !)))))))) (ends 𝓤 H (𝓖 .A) W (𝓜 .mem) (𝓡 .run) κs shares a))
+    (and-then ! (here ! 3 refl) (and-then ! (large ! (record { fits = lit< tt })) (no-more !)))))))) (ends 𝓤 H (𝓖 .A) W (𝓜 .mem) (𝓡 .run) κs shares a))
