@@ -60,6 +60,13 @@ two = hex 11 0x050000000013003000a1a2
 abbrev pub lastFour : List ℕ
 lastFour = hex 13 0x070000000013003011b1b2b3b4
 
+-- segments that bring no byte: more to come, and the last
+abbrev pub empty : List ℕ
+empty = hex 9 0x030000000013003000
+
+abbrev pub lastEmpty : List ℕ
+lastEmpty = hex 9 0x030000000013003001
+
 -- fragments of a list: the first, of 4 bytes behind the list kind; the last, of 2
 abbrev pub firstFragment : List ℕ
 firstFragment = hex 18 0x0c00000000130080820001000100aabbccdd
@@ -98,6 +105,25 @@ oneFrame = enter 3 (upload 1) ∷ send 3 (blank 16) ∷ leave 3 ∷ []
 abbrev pub oneFrameWith : ℕ → List Told
 oneFrameWith frame = entered ∷ sent (hex 16 frame) ∷ left ∷ []
 
+-- a request, and its reply
+abbrev pub exchange : List ℕ → List Called
+exchange reply = send 0 (blank 16) ∷ receive 0 (reply, blank 8) ∷ []
+
+-- an upload within three replies: segments follow, the first is empty, and what the third reply is told; the seat is free then
+abbrev pub thirdReply : List ℕ → Told → List Told × List Told
+thirdReply reply told = (
+  toldFrom 1 (enter 0 (upload 3) ∷ exchange segmentsFollow ++ exchange empty ++ exchange reply ++ leave 0 ∷ []),
+  entered
+      ∷ sent (hex 16 0x0a000000001300204018100100000000)
+      ∷ (number 0x01, blank 8)
+      ∷ sent (hex 16 0x0a000000002300206000000000000000)
+      ∷ (number 0x01, blank 8)
+      ∷ sent (hex 16 0x0a000000003300207000000000000000)
+      ∷ told
+      ∷ refused 0x12 []
+      ∷ [],
+)
+
 abbrev pub runs : List (List Told × List Told)
 runs =
     -- (P) "Eighth frame: counter 1."
@@ -114,8 +140,7 @@ runs =
     )
     -- "Budget 2, first segment not last: 27.", and its chunk is not stored
     ∷ (
-      toldFrom 1
-          (enter 0 (upload 2) ∷ send 0 (blank 16) ∷ receive 0 (segmentsFollow, blank 8) ∷ send 0 (blank 16) ∷ receive 0 (two, blank 8) ∷ []),
+      toldFrom 1 (enter 0 (upload 2) ∷ exchange segmentsFollow ++ exchange two),
       entered
           ∷ sent (hex 16 0x0a000000001300204018100100000000)
           ∷ (number 0x01, blank 8)
@@ -137,6 +162,10 @@ runs =
           ∷ (doneOf 6, hex 8 0xa1a2b1b2b3b4eeee)
           ∷ [],
     )
+    -- document 02, [12]: "A faulty drive" announces segments and sends empty ones. Of a budget of 3 the third reply, the second segment, is
+    -- 27; and where that one is the last, done
+    ∷ thirdReply empty (refused 0x27 (blank 8))
+    ∷ thirdReply lastEmpty (doneOf 0, blank 8)
     -- a list of two fragments: one request, two replies
     ∷ (
       toldFrom 1
