@@ -5,6 +5,7 @@ import random
 
 import replies as r
 from desk import DOWNLOADS, LISTS, REQUEST, COMPLETE_DOWNLOAD, COMPLETE_UPLOAD, Order
+from model import DEFAULT_BUDGET
 
 chance = random.Random(4)
 SEQUENCES, CALLS = 130, 48
@@ -18,7 +19,7 @@ def content(most):
 def order():
     kind = chance.choice((1, 1, 1, 1, 2, 3, 4, 4, 5, 6))
     index = chance.randrange(1, 6) if kind == 4 else chance.choice((0x1018, 0x6060, 0x1008, 0))
-    budget = chance.choice((1, 2, 3, 9, 65535, 65535))
+    budget = chance.choice((1, 2, 3, 9, DEFAULT_BUDGET, 65535))
     o = Order(kind, chance.choice((0, 1, 2, 255)), index, chance.randrange(2**32), chance.randrange(1, 5), budget)
     if chance.random() < 0.08:
         return o._replace(**chance.choice(({"kind": 0}, {"kind": 7}, {"len": 0}, {"len": 5}, {"budget": 0}, {"index": 6})))

@@ -1,8 +1,8 @@
 """Sequences made by hand about the calls and the order of refusals: each under the sentence of document 01 that it is about, with
 the number that every call must give."""
 import replies as r
-from desk import COMPLETE_DOWNLOAD, COMPLETE_UPLOAD, QUANTITIES, Order
-from orders import SERIAL, WRITTEN, down, in_segments, listed, sequence, up
+from desk import COMPLETE_DOWNLOAD, COMPLETE_UPLOAD, Order
+from orders import SERIAL, WRITTEN, counted, down, in_segments, listed, sequence, up
 
 
 @sequence
@@ -12,7 +12,7 @@ def whole(h):
                                ("complete upload", Order(COMPLETE_UPLOAD, 7, 0x1018, 0, 0, 9), r.normal(0x1018, 1, b"abcdef")),
                                ("complete download", down(kind=COMPLETE_DOWNLOAD, sub=7), r.downloaded(0x6060, 1)),
                                ("list", listed(5), r.fragment(b"\x00\x10\x18\x10", True, False)),
-                               ("quantities", Order(QUANTITIES, 0, 0, 0, 0, 9), r.fragment(bytes(range(10)), True, False))):
+                               ("quantities", counted(9), r.fragment(bytes(range(10)), True, False))):
         h.enter(3, order).gives(0x01)
         h.enter(3, order).gives(0x11)
         h.send(3).gives(0x02)

@@ -1,8 +1,8 @@
 """Sequences made by hand about emergencies: each under the words of request [5] of document 02 that it is about, with the number that
 every call must give, and beside 21 its values."""
 import replies as r
-from desk import COMPLETE_DOWNLOAD, COMPLETE_UPLOAD, QUANTITIES, Order
-from orders import WRITTEN, asked, asked_for_a_segment, down, listed, sequence, up
+from desk import COMPLETE_DOWNLOAD, COMPLETE_UPLOAD, Order
+from orders import WRITTEN, asked, asked_for_a_segment, counted, down, listed, sequence, up
 
 OVERHEATED = bytes.fromhex("0a00000000130010" "1042" "08" "0102030405")
 OVERHEATED_READ = "08 0000 00004210 00000000 0504030201"
@@ -102,7 +102,7 @@ def type_and_length_field(h):
 @sequence
 def in_lists(h):
     """Information replies stay as they are."""
-    for order in (listed(1), Order(QUANTITIES, 0, 0, 0, 0, 65535)):
+    for order in (listed(1), counted()):
         for begun, number, reply in ((False, 0x20, OVERHEATED), (True, 0x20, OVERHEATED), (True, 0x20, OVERHEATED[:11]),
                                      (False, 0x00, fragment(b"ab", True)), (False, 0x02, fragment(b"ab", True, more=True)),
                                      (False, 0x25, fragment(b"ab", True)[:15]), (False, 0x02, fragment(b"ab", True, operation=7)),

@@ -1,8 +1,7 @@
 """Sequences made by hand about lent buffers, replies and budgets: each under the sentence of document 01, or of request [1] of
 document 02, that it is about, with the number that every call must give."""
 import replies as r
-from orders import SERIAL, WRITTEN, down, follow_in_segments, in_segments, listed, sequence, up
-from desk import QUANTITIES, Order
+from orders import SERIAL, WRITTEN, counted, down, follow_in_segments, in_segments, listed, sequence, up
 from host import FRAMES
 
 
@@ -140,7 +139,7 @@ def chunks(h):
 @sequence
 def fragments(h):
     """Information replies: one request, many replies. Operation other than 2: reply due, nothing stored."""
-    for order in (listed(3), Order(QUANTITIES, 0, 0, 0, 0, 65535)):
+    for order in (listed(3), counted()):
         h.enter(1, order).gives(0x01)
         h.send(1).gives(0x02)
         h.receive(1, r.fragment(b"nothing of it", True, True, operation=7)).gives(0x02)

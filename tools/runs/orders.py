@@ -1,6 +1,7 @@
 """Orders, and the beginnings of sequences made by hand, which `sequence` gathers in the order in which they are written."""
 import replies as r
-from desk import DOWNLOAD, OBJECT_LIST, UPLOAD, Order
+from desk import DOWNLOAD, OBJECT_LIST, QUANTITIES, UPLOAD, Order
+from model import DEFAULT_BUDGET
 
 SEQUENCES = []
 
@@ -10,16 +11,20 @@ def sequence(made):
     return made
 
 
-def up(index=0x1018, sub=1, budget=65535):
+def up(index=0x1018, sub=1, budget=DEFAULT_BUDGET):
     return Order(UPLOAD, sub, index, 0, 0, budget)
 
 
-def down(index=0x6060, sub=0, value=8, length=1, budget=65535, kind=DOWNLOAD):
+def down(index=0x6060, sub=0, value=8, length=1, budget=DEFAULT_BUDGET, kind=DOWNLOAD):
     return Order(kind, sub, index, value, length, budget)
 
 
-def listed(kind=1, budget=65535):
+def listed(kind=1, budget=DEFAULT_BUDGET):
     return Order(OBJECT_LIST, 0, kind, 0, 0, budget)
+
+
+def counted(budget=DEFAULT_BUDGET):
+    return Order(QUANTITIES, 0, 0, 0, 0, budget)
 
 
 SERIAL = r.expedited(0x1018, 1, b"\x78\x56\x34\x12")
