@@ -47,7 +47,7 @@ impl Desk {
         Desk { record: ffi::Record::fresh() }
     }
 
-    /// Joins the end of the line, with the default budget of 65,535 replies.
+    /// Joins the end of the line, with the [`DEFAULT_BUDGET`](crate::DEFAULT_BUDGET) of 1,024 replies.
     ///
     /// # Errors
     /// [`Refusal::SeatTaken`], then [`Refusal::BadOrder`].
@@ -56,7 +56,8 @@ impl Desk {
         expect(0x01, self.record.enter(seat.number(), kind, index, sub, data))
     }
 
-    /// Joins the end of the line. A transfer that isn't finished after `budget` replies ends with [`Refusal::BudgetSpent`].
+    /// Joins the end of the line. A transfer that isn't finished after `budget` replies ends with [`Refusal::BudgetSpent`]. Whoever
+    /// fetches a long object list through a small mailbox passes 65,535: see [`DEFAULT_BUDGET`](crate::DEFAULT_BUDGET#who-needs-more).
     ///
     /// # Errors
     /// As of [`enter`](Desk::enter), and [`Refusal::BadOrder`] also for a budget of 0.

@@ -47,3 +47,21 @@ pub const LONGEST_REPLY: usize = 1486;
 
 /// The bytes of the longest data buffer: an object list of 65,535 indices.
 pub const LONGEST_DATA: usize = 131_070;
+
+/// How many replies a transfer may take whose call names no budget: [`Desk::enter`], [`SharedDesk::transfer`]. One that isn't finished
+/// by then ends with [`Refusal::BudgetSpent`], so that a faulty drive doesn't keep the line for long.
+///
+/// # Who needs more
+/// Nobody whose drive has a mailbox of 142 bytes or more and fills its replies: they bring anything that a data buffer holds. Through
+/// a smaller one they bring a list of so many indices, or so many bytes of an object that comes in segments:
+///
+/// | mailbox | indices | bytes |
+/// |---|---|---|
+/// | 16 | 1,024 | 7,161 |
+/// | 32 | 9,216 | 23,529 |
+/// | 64 | 25,600 | 56,265 |
+/// | 128 | 58,368 | 121,737 |
+///
+/// Who fetches more than that passes a budget, to [`Desk::enter_within`] or [`SharedDesk::transfer_within`]: 65,535 is enough for
+/// anything, since a list has no more indices, and a reply brings one at least.
+pub const DEFAULT_BUDGET: u16 = 1024;

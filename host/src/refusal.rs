@@ -75,7 +75,8 @@ pub enum Refusal {
     MissingBytes,
     /// 26: the reply's length field is below 3 (a segment) or 8 (a list).
     LengthField,
-    /// 27: the reply budget is spent, and the transfer not finished.
+    /// 27: the reply budget is spent, and the transfer not finished. Where the drive is not faulty but its mailbox small, pass a
+    /// greater one: see [`DEFAULT_BUDGET`](crate::DEFAULT_BUDGET#who-needs-more).
     BudgetSpent,
     /// A number that this crate has no name for: the archive that is linked is newer than the crate.
     Unnamed {
@@ -168,7 +169,9 @@ impl fmt::Display for Refusal {
             Refusal::TooLarge => "the object is larger than the data buffer: lend a longer one",
             Refusal::MissingBytes => "the reply names bytes that are not there, or that the data buffer has no room for",
             Refusal::LengthField => "the reply's length field is too small: below 3 of a segment, or 8 of a list",
-            Refusal::BudgetSpent => "the drive sent as many replies as the budget allows, and the transfer is not finished",
+            Refusal::BudgetSpent => {
+                "the drive sent as many replies as the budget allows, and is not finished: it is faulty, or needs a greater budget"
+            }
             Refusal::Unnamed { number } => return write!(f, "number {number:02x}: the linked archive is newer than this crate"),
         })
     }

@@ -3,6 +3,7 @@ use super::frames::{Data, Object, Request};
 use super::judge::{lengths_fit, verdict, Expected, Next};
 use super::numbered;
 use crate::ffi::Answer;
+use coe_desk::DEFAULT_BUDGET;
 
 #[derive(Debug, Clone, Copy)]
 enum Stage {
@@ -165,7 +166,7 @@ impl Desk {
 
     #[inline(never)]
     pub fn enter(&mut self, seat: u8, kind: u8, index: u16, sub: u8, data: &[u8]) -> Answer {
-        let (Ok(number) | Err(number)) = self.try_enter(seat, order(kind, index, sub, data), 65535);
+        let (Ok(number) | Err(number)) = self.try_enter(seat, order(kind, index, sub, data), DEFAULT_BUDGET);
         numbered(number)
     }
 

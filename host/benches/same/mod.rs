@@ -1,7 +1,7 @@
 //! Both forms give the same answers and leave the same bytes, on what is timed and on much else.
 use crate::ffi::{self, Record};
 use crate::plain::{self, Desk};
-use crate::works::inputs::{lists, payload, segment, uploads, ABORT, DATA, EXPEDITED, INDEX};
+use crate::works::inputs::{announcement, lists, payload, segment, uploads, ABORT, DATA, EXPEDITED, INDEX};
 use crate::works::inputs::{LIST, LONGEST, ROOM, SEGMENT, SUB, UPLOAD, WRONG_TYPE};
 use crate::works::transferred;
 
@@ -165,10 +165,23 @@ fn transfers() {
     }
 }
 
+/// A faulty drive's empty segments: with the 1,024th reply both give up, unless it is the last segment.
+fn budgets() {
+    for (last, number) in [(false, 0x27), (true, 0x00)] {
+        let mut replies = vec![segment(&[], false); 1024];
+        replies[0] = announcement(1);
+        replies[1023] = segment(&[], last);
+        let archive = transferred(&mut Record::fresh(), UPLOAD, INDEX, &replies, &mut [0]);
+        let plain = transferred(&mut Desk::fresh(), UPLOAD, INDEX, &replies, &mut [0]);
+        assert_eq!((archive, archive.number), (plain, number));
+    }
+}
+
 pub fn check() {
     let mut chance = Chance(1);
     writers();
     judges(&mut chance);
     desks(&mut chance);
     transfers();
+    budgets();
 }

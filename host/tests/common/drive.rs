@@ -129,7 +129,8 @@ impl Drive {
         let last = chunks.len() - 1;
         for (number, chunk) in chunks.into_iter().enumerate() {
             let mut reply = front(8 + chunk.len(), 8, 2 | u8::from(number < last) << 7);
-            reply.extend([0, (last - number) as u8, 0]);
+            reply.push(0);
+            reply.extend(((last - number) as u16).to_le_bytes());
             if number == 0 {
                 reply.extend(kind.to_le_bytes());
             }
