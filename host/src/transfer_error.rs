@@ -11,7 +11,8 @@ pub enum TransferError<E> {
     TimedOut,
     /// The mailbox failed.
     Mailbox(E),
-    /// Late replies of an earlier transfer did not come to an end, so that nothing was sent.
+    /// Late replies of an earlier transfer did not come to an end, so that nothing was sent. Where they are the rest of a long list,
+    /// the next calls read on, and one with a greater budget reads more of them.
     NeverQuiet,
 }
 
@@ -27,9 +28,9 @@ impl<E: fmt::Display> fmt::Display for TransferError<E> {
             TransferError::Refused(refusal) => refusal.fmt(f),
             TransferError::TimedOut => f.write_str("the drive sent no reply in time"),
             TransferError::Mailbox(error) => write!(f, "the mailbox failed: {error}"),
-            TransferError::NeverQuiet => {
-                f.write_str("replies to an earlier request keep coming, so nothing was sent: is there another master?")
-            }
+            TransferError::NeverQuiet => f.write_str(
+                "replies to an earlier request keep coming, so nothing was sent: is there another master, or a long list?",
+            ),
         }
     }
 }

@@ -2,7 +2,7 @@
 mod tests;
 mod turn;
 
-use crate::{Desk, Mailbox, Order, Payload, Refusal, Seat, TransferError};
+use crate::{Desk, Mailbox, Order, Payload, Refusal, Seat, TransferError, DEFAULT_BUDGET};
 use core::fmt;
 use core::time::Duration;
 use std::sync::{Condvar, Mutex, MutexGuard, PoisonError};
@@ -12,17 +12,17 @@ use turn::Turn;
 ///
 /// # Order
 /// Transfers are served in the order in which the calls came, the desk's order of entry; the calls beyond eight wait for a seat,
-/// in order too. A drive that is slow, or sends one reply after another, keeps the others waiting: [`transfer_within`] limits the
-/// replies. While one task waits for its drive, the others can enter: no lock is held during a mailbox's `write` and `read`.
-///
-/// [`transfer_within`]: SharedDesk::transfer_within
+/// in order too. A drive that is slow, or sends one reply after another, keeps the others waiting: for 1,024 replies at most, or as
+/// many as [`transfer_within`](SharedDesk::transfer_within) is told. While one task waits for its drive, the others can enter: no
+/// lock is held during a mailbox's `write` and `read`.
 ///
 /// # Late replies
 /// A transfer that ends before its last reply has come (by a timeout, a failing mailbox, a panic, or any refusal 2x but an abort
 /// of the drive) may leave replies under way, which the next transfer must not take for its own. So the next one, before it
 /// writes anything, reads and drops replies until none comes within the settling time. That is the reply timeout, unless
-/// [`settling`](SharedDesk::settling) sets another. A reply that is later still can't be told from the right one by its time; the
-/// desk compares its index and sub-index, which a segment doesn't have. So a drive that may take long needs long times here.
+/// [`settling`](SharedDesk::settling) sets another. It drops as many as its budget, and 1,024 at least, before it gives up with
+/// [`TransferError::NeverQuiet`]. A reply that is later still can't be told from the right one by its time; the desk compares its
+/// index and sub-index, which a segment doesn't have. So a drive that may take long needs long times here.
 ///
 /// # Panics of a mailbox
 /// A panic in a mailbox's `write` or `read` takes its own transfer out of the desk, and the others go on. A poisoned lock is no
@@ -83,7 +83,8 @@ impl SharedDesk {
         self
     }
 
-    /// Waits its turn, does the whole transfer and gives its payload back, which stands at the front of `data`.
+    /// Waits its turn, does the whole transfer and gives its payload back, which stands at the front of `data`. It takes the
+    /// [`DEFAULT_BUDGET`] of 1,024 replies at most.
     ///
     /// # Errors
     /// A [`TransferError`]. The transfer has left the desk then, and the next one has its turn.
@@ -93,11 +94,18 @@ impl SharedDesk {
         data: &'d mut [u8],
         mailbox: &mut M,
     ) -> Result<Payload<'d>, TransferError<M::Error>> {
-        let turn = self.seated(|desk, seat| desk.enter(seat, order))?;
-        turn.run(data, mailbox).map(|length| Payload::new(data, length))
+        self.transfer_within(order, DEFAULT_BUDGET, data, mailbox)
     }
 
-    /// The same with a budget of its own: a drive that sends more replies ends the transfer.
+    /// The same with a budget of its own: a drive that sends more replies ends the transfer. Whoever fetches a long object list
+    /// through a small mailbox passes 65,535: see [`DEFAULT_BUDGET`](DEFAULT_BUDGET#who-needs-more).
+    ///
+    /// ```
+    /// # use coe_desk::{ListKind, Mailbox, Order, Payload, SharedDesk, TransferError};
+    /// # fn list<'d, M: Mailbox>(desk: SharedDesk, data: &'d mut [u8], mailbox: &mut M) -> Result<Payload<'d>, TransferError<M::Error>> {
+    /// desk.transfer_within(Order::ObjectList(ListKind::All), 65_535, data, mailbox)
+    /// # }
+    /// ```
     ///
     /// # Errors
     /// As of [`transfer`](SharedDesk::transfer).
@@ -108,22 +116,22 @@ impl SharedDesk {
         data: &'d mut [u8],
         mailbox: &mut M,
     ) -> Result<Payload<'d>, TransferError<M::Error>> {
-        let turn = self.seated(|desk, seat| desk.enter_within(seat, order, budget))?;
+        let turn = self.seated(order, budget)?;
         turn.run(data, mailbox).map(|length| Payload::new(data, length))
     }
 
     /// Waits until the calls before this one have been at the desk and a seat is free, and enters there.
-    fn seated(&self, enter: impl Fn(&mut Desk, Seat) -> Result<(), Refusal>) -> Result<Turn<'_>, Refusal> {
+    fn seated(&self, order: Order<'_>, budget: u16) -> Result<Turn<'_>, Refusal> {
         let mut state = self.lock();
         let call = state.calls;
         state.calls += 1;
         loop {
             if state.seen_to == call {
-                let entered = enter_anywhere(&mut state.desk, &enter);
+                let entered = enter_anywhere(&mut state.desk, order, budget);
                 if entered != Err(Refusal::SeatTaken) {
                     state.seen_to += 1;
                     self.changed.notify_all();
-                    return entered.map(|seat| Turn::new(self, seat));
+                    return entered.map(|seat| Turn::new(self, seat, budget));
                 }
             }
             state = self.wait(state);
@@ -140,9 +148,9 @@ impl SharedDesk {
 }
 
 /// Enters at the first seat that is not taken; [`Refusal::SeatTaken`] where all are.
-fn enter_anywhere(desk: &mut Desk, enter: impl Fn(&mut Desk, Seat) -> Result<(), Refusal>) -> Result<Seat, Refusal> {
+fn enter_anywhere(desk: &mut Desk, order: Order<'_>, budget: u16) -> Result<Seat, Refusal> {
     for seat in Seat::ALL {
-        match enter(desk, seat) {
+        match desk.enter_within(seat, order, budget) {
             Err(Refusal::SeatTaken) => {}
             entered => return entered.map(|()| seat),
         }

@@ -1,13 +1,12 @@
 use super::SharedDesk;
-use crate::{Answer, Mailbox, Refusal, Seat, TransferError, FRAME_LENGTH, LONGEST_REPLY};
-
-/// How many late replies are read off before the drive is taken to talk without end: as many as the longest transfer has.
-const MOST_LATE_REPLIES: u16 = u16::MAX;
+use crate::{Answer, Mailbox, Refusal, Seat, TransferError, DEFAULT_BUDGET, FRAME_LENGTH, LONGEST_REPLY};
 
 /// A transfer at the desk. Whichever way it goes out of scope, its seat is free afterwards and the others are told.
 pub(super) struct Turn<'s> {
     shared: &'s SharedDesk,
     seat: Seat,
+    /// How many late replies are read off before the drive is taken to talk without end.
+    most_late_replies: u16,
     /// The desk has ended the transfer, so that the seat may be another's already.
     over: bool,
     /// A request is written, and not all of its replies have come.
@@ -15,8 +14,8 @@ pub(super) struct Turn<'s> {
 }
 
 impl<'s> Turn<'s> {
-    pub(super) fn new(shared: &'s SharedDesk, seat: Seat) -> Turn<'s> {
-        Turn { shared, seat, over: false, reply_due: false }
+    pub(super) fn new(shared: &'s SharedDesk, seat: Seat, budget: u16) -> Turn<'s> {
+        Turn { shared, seat, most_late_replies: budget.max(DEFAULT_BUDGET), over: false, reply_due: false }
     }
 
     /// Does the transfer and gives the payload's length back.
@@ -50,7 +49,7 @@ impl<'s> Turn<'s> {
     /// Reads until no reply comes. Nobody else is at the mailbox: the desk has this transfer at its head, with a reply due.
     fn read_off<M: Mailbox>(&self, mailbox: &mut M) -> Result<(), TransferError<M::Error>> {
         let mut reply = [0; LONGEST_REPLY];
-        for _ in 0..MOST_LATE_REPLIES {
+        for _ in 0..self.most_late_replies {
             if mailbox.read(&mut reply, self.shared.settling).map_err(TransferError::Mailbox)?.is_none() {
                 self.shared.lock().late_replies = false;
                 return Ok(());
