@@ -1,6 +1,6 @@
 //! A transfer: what a task asks and lends, and the drive's replies. Its text is an entry line and a line for each reply:
 //!
-//!     read 1018 01 - 4 1 65535
+//!     read 1018 01 - 4 1 1024
 //!     0a000000001300304318100178563412
 //!
 //! kind, index (of a list its kind), sub-index or `c` for complete access, data, N, the first request's counter, budget. The last two may
@@ -9,7 +9,7 @@ use crate::hex;
 use ethercrab::play::Number;
 use std::fmt;
 
-pub const DEFAULT_BUDGET: u16 = 65_535;
+pub use coe_desk::DEFAULT_BUDGET;
 
 /// What a lent buffer holds before it is lent.
 pub const FILL: u8 = 0xa5;
@@ -86,7 +86,7 @@ impl Transfer {
 }
 
 pub fn parse_entry(line: &str) -> Result<Transfer, String> {
-    let bad = |what: &str| format!("`{line}`: {what}; an entry is as `read 1018 01 - 4 1 65535`");
+    let bad = |what: &str| format!("`{line}`: {what}; an entry is as `read 1018 01 - 4 1 1024`");
     let words: Vec<&str> = line.split_whitespace().collect();
     if !(5..=7).contains(&words.len()) {
         return Err(bad("five to seven words are expected"));

@@ -1,13 +1,13 @@
-//! Long transfers, one by one: full buffers, full lists and the default budget.
+//! Long transfers, one by one: full buffers, full lists, and the last reply of the default budget and of the greatest.
 use super::replies;
 use crate::case::Case;
 use crate::rng::Rng;
-use crate::transfer::{Kind, Transfer};
+use crate::transfer::{Kind, Transfer, DEFAULT_BUDGET};
 use coe_desk::{LONGEST_DATA, LONGEST_REPLY};
 
 type Make = fn(&mut Rng) -> Transfer;
 
-const ALL: [Make; 19] = [
+const ALL: [Make; 23] = [
     |rng| list(rng, 131_068),
     |rng| list(rng, 131_069),
     |rng| list(rng, 131_070),
@@ -23,10 +23,14 @@ const ALL: [Make; 19] = [
     |rng| normal(rng, LONGEST_REPLY),
     |rng| normal(rng, LONGEST_REPLY + 1),
     |_| Transfer { room: LONGEST_DATA + 1, replies: vec![Vec::new()], ..asked(0) },
-    |_| segments(65_534),
-    |_| segments(65_535),
-    |_| waits(65_534),
-    |_| waits(65_535),
+    |_| Transfer { budget: DEFAULT_BUDGET, ..segments(1_023) },
+    |_| Transfer { budget: DEFAULT_BUDGET, ..segments(1_024) },
+    |_| Transfer { budget: DEFAULT_BUDGET, ..waits(1_023) },
+    |_| Transfer { budget: DEFAULT_BUDGET, ..waits(1_024) },
+    |_| Transfer { budget: 65_535, ..segments(65_534) },
+    |_| Transfer { budget: 65_535, ..segments(65_535) },
+    |_| Transfer { budget: 65_535, ..waits(65_534) },
+    |_| Transfer { budget: 65_535, ..waits(65_535) },
 ];
 
 pub const COUNT: u64 = ALL.len() as u64;
@@ -84,7 +88,7 @@ fn normal(rng: &mut Rng, reply_len: usize) -> Transfer {
     transfer
 }
 
-/// So many replies before the last segment: 65,534 and it are the default budget.
+/// So many replies before the last segment, the announcement and empty segments.
 fn segments(before: usize) -> Transfer {
     let segment = |last: u8| [&b"\x03\0\0\0\0\x13\0\x30"[..], &[0x60 | last]].concat();
     let mut transfer = asked(1);

@@ -2,7 +2,7 @@
 use super::guarded::Guarded;
 use super::judge::Beside;
 use crate::ran::{End, Ran, Read};
-use crate::transfer::{Kind, Transfer, FILL};
+use crate::transfer::{Kind, Transfer, DEFAULT_BUDGET, FILL};
 use coe_desk::{reads, Answer, Desk, ListKind, Order, Payload, Refusal, Seat, SubIndex, FRAME_LENGTH};
 use ethercrab::play::Number;
 
@@ -19,7 +19,7 @@ pub const LIST_KINDS: [ListKind; 5] = [
 pub fn run(transfer: &Transfer) -> Result<Ran, String> {
     let mut desk = desk_at(transfer.counter)?;
     let seat = Seat::ALL[usize::from(transfer.index) % Seat::ALL.len()];
-    let mut ran = match desk.enter_within(seat, order(transfer)?, transfer.budget) {
+    let mut ran = match enter(&mut desk, seat, transfer)? {
         Err(refusal) => Ran { stored: vec![FILL; transfer.room], ..Ran::ending(End::Refused(refusal.number())) },
         Ok(()) => exchange(&mut desk, seat, transfer, None)?,
     };
@@ -31,12 +31,9 @@ pub fn run(transfer: &Transfer) -> Result<Ran, String> {
 pub fn run_pair(first: &Transfer, second: &Transfer) -> Result<(Ran, Ran), String> {
     let mut desk = desk_at(first.counter)?;
     let [head, waiting] = [Seat::ALL[3], Seat::ALL[6]];
-    let mut enter = |seat, transfer| match desk.enter_within(seat, order(transfer)?, transfer.budget) {
-        Err(refusal) => Err(format!("an entry was refused: {refusal}")),
-        Ok(()) => Ok(()),
-    };
-    enter(head, first)?;
-    enter(waiting, second)?;
+    for (seat, transfer) in [(head, first), (waiting, second)] {
+        enter(&mut desk, seat, transfer)?.map_err(|refusal| format!("an entry was refused: {refusal}"))?;
+    }
     let mut first = exchange(&mut desk, head, first, Some(waiting))?;
     let mut second = exchange(&mut desk, waiting, second, None)?;
     first.counter = second.sent[0][5] >> 4;
@@ -47,6 +44,15 @@ pub fn run_pair(first: &Transfer, second: &Transfer) -> Result<(Ran, Ran), Strin
 fn next_counter(desk: &mut Desk, seat: Seat) -> Result<u8, String> {
     desk.enter(seat, Order::Quantities).map_err(|_| "the seat is not free after the transfer")?;
     Ok(send(desk, seat)?[5] >> 4)
+}
+
+/// By the call that names no budget, where the transfer's is the default.
+fn enter(desk: &mut Desk, seat: Seat, transfer: &Transfer) -> Result<Result<(), Refusal>, String> {
+    let order = order(transfer)?;
+    Ok(match transfer.budget {
+        DEFAULT_BUDGET => desk.enter(seat, order),
+        budget => desk.enter_within(seat, order, budget),
+    })
 }
 
 fn order(transfer: &Transfer) -> Result<Order<'_>, String> {
