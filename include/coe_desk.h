@@ -71,13 +71,13 @@ void coe_desk_fresh(coe_desk *desk);
  * drive does not keep the line for long. A drive with a mailbox of 142 bytes or more that fills its replies needs no more for anything that
  * a data buffer holds. Who fetches a long object list, or a long object, through a smaller one passes more, to coe_desk_enter_within.
  * 65535 is enough for anything: a list has no more indices, and a reply brings one at least. Through 16 bytes it brings just one, so that
- * the full list takes 65535 replies. */
+ * the full list takes 65535 replies. The rest of a list that ended in 0x27 may still come, and is the host's to read off. */
 #define COE_DESK_DEFAULT_BUDGET 1024
 
-/* Joins the end of the line at `seat`, 0 to 7, with the default budget. `kind`: 1 upload, 2 complete upload,
- * 3 download, 4 object list (its kind, 1 to 5, in `index`), 5 quantities, 6 complete download. `data` is a download's, 1 to 4 bytes, which
- * are copied; other kinds take no notice of it. 0x01: entered. In this order 0x10: `seat` above 7; 0x11: taken; 0x15: no such kind, a
- * download's `data_len` not 1 to 4, a list kind not 1 to 5. */
+/* Joins the end of the line at `seat`, 0 to 7, with the default budget. `kind`: 1 upload, 2 complete upload, 3 download, 4 object list (its
+ * kind, 1 to 5, in `index`), 5 quantities, 6 complete download. `data` is a download's, 1 to 4 bytes, which are copied; other kinds take no
+ * notice of it. 0x01: entered. In this order 0x10: `seat` above 7; 0x11: taken; 0x15: no such kind, a download's `data_len` not 1 to 4, a
+ * list kind not 1 to 5. */
 coe_answer coe_desk_enter(coe_desk *desk, uint8_t seat, uint8_t kind, uint16_t index, uint8_t sub, const uint8_t *data,
                           size_t data_len);
 

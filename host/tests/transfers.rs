@@ -54,7 +54,7 @@ fn hundred_objects() -> Handle {
 #[test]
 fn lists_and_quantities() {
     let (desk, mut handle, mut data) = (desk(), hundred_objects(), [0; 256]);
-    let list = desk.transfer(Order::ObjectList(ListKind::All), &mut data, &mut handle).unwrap();
+    let list = desk.transfer_within(Order::ObjectList(ListKind::All), 65_535, &mut data, &mut handle).unwrap();
     assert!(list.object_list().unwrap().eq(0x2000..0x2064));
     let none = desk.transfer(Order::ObjectList(ListKind::RxPdoMappable), &mut data, &mut handle).unwrap();
     assert_eq!(none.object_list().unwrap().count(), 0);
