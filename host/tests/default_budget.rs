@@ -68,20 +68,20 @@ fn a_shared_desk_reads_no_more_than_the_budget() {
     }
 }
 
-/// A drive of so many objects.
-fn objects(mailbox_size: usize, count: u16) -> Handle {
-    (0..count).fold(Drive::new(mailbox_size), |drive, index| drive.with(index, 0, &[1])).shared()
+/// A desk, and a drive of so many objects.
+fn trial(mailbox_size: usize, count: usize) -> (SharedDesk, Handle) {
+    let drive = (0..).take(count).fold(Drive::new(mailbox_size), |drive, index| drive.with(index, 0, &[1]));
+    (SharedDesk::new(Duration::ZERO), drive.shared())
 }
 
-/// How many indices a shared desk lists of so many objects.
-fn listed(mailbox_size: usize, count: u16, budget: Option<u16>) -> Result<usize, TransferError<Infallible>> {
-    let (desk, mut handle, mut data) = (SharedDesk::new(Duration::ZERO), objects(mailbox_size, count), vec![0; LONGEST_DATA]);
-    let order = Order::ObjectList(ListKind::All);
+/// How many objects are listed, each at its place.
+fn listed((desk, handle): &mut (SharedDesk, Handle), budget: Option<u16>) -> Result<usize, TransferError<Infallible>> {
+    let (order, mut data) = (Order::ObjectList(ListKind::All), vec![0; LONGEST_DATA]);
     let payload = match budget {
-        None => desk.transfer(order, &mut data, &mut handle)?,
-        Some(budget) => desk.transfer_within(order, budget, &mut data, &mut handle)?,
+        None => desk.transfer(order, &mut data, handle)?,
+        Some(budget) => desk.transfer_within(order, budget, &mut data, handle)?,
     };
-    assert!(payload.object_list().unwrap().eq(0..count));
+    assert!(payload.object_list().unwrap().map(usize::from).eq(0..payload.length() / 2));
     Ok(payload.length() / 2)
 }
 
@@ -102,10 +102,11 @@ fn rows() -> Vec<Vec<usize>> {
 fn the_default_brings_what_its_page_says_and_no_more() {
     assert_eq!(rows().len(), 4);
     for row in rows() {
-        let (mailbox_size, indices, bytes) = (row[0], row[1] as u16, row[2]);
-        assert_eq!(listed(mailbox_size, indices, None), Ok(row[1]));
-        assert_eq!(listed(mailbox_size, indices + 1, None), Err(SPENT));
-        assert_eq!(listed(mailbox_size, indices + 1, Some(65_535)), Ok(row[1] + 1));
+        let (mailbox_size, indices, bytes) = (row[0], row[1], row[2]);
+        assert_eq!(listed(&mut trial(mailbox_size, indices), None), Ok(indices));
+        let mut one_more = trial(mailbox_size, indices + 1);
+        assert_eq!(listed(&mut one_more, None), Err(SPENT));
+        assert_eq!(listed(&mut one_more, Some(65_535)), Ok(indices + 1));
         assert_eq!(uploaded(mailbox_size, bytes), Ok(bytes));
         assert_eq!(uploaded(mailbox_size, bytes + 1), Err(SPENT));
     }
@@ -113,15 +114,16 @@ fn the_default_brings_what_its_page_says_and_no_more() {
 
 #[test]
 fn from_142_bytes_on_the_default_is_enough() {
-    assert_eq!(listed(142, 65_535, None), Ok(65_535));
-    assert_eq!(listed(140, 65_535, None), Err(SPENT));
+    assert_eq!(listed(&mut trial(142, 65_535), None), Ok(65_535));
+    assert_eq!(listed(&mut trial(140, 65_535), None), Err(SPENT));
     assert_eq!(uploaded(142, LONGEST_DATA), Ok(LONGEST_DATA));
 }
 
 #[test]
 fn the_longest_list_through_the_smallest_mailbox_takes_65535_replies() {
-    assert_eq!(listed(16, 65_535, Some(65_535)), Ok(65_535));
-    assert_eq!(listed(16, 65_535, Some(65_534)), Err(SPENT));
+    let mut longest = trial(16, 65_535);
+    assert_eq!(listed(&mut longest, Some(65_534)), Err(SPENT));
+    assert_eq!(listed(&mut longest, Some(65_535)), Ok(65_535));
 }
 
 #[test]
