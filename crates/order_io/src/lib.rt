@@ -68,8 +68,8 @@ fn turn(
 }
 
 // A proved loop has to end, and nothing says that the input does. So the loop counts its turns down, from a number that no run
-// uses up: each turn reads a character at least, and a run takes an entry and as many replies as the default budget has at most, each a line
-// of at most 2,972 characters and a line end.
+// uses up: each turn reads a character at least, and a run takes an entry and at most as many replies as the default budget has,
+// each a line of at most 2,972 characters and a line end.
 pub fn turns(
     piece: &mut [u8],
     frame: &mut [u8; 1486],

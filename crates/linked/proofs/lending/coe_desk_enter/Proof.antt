@@ -115,4 +115,5 @@ coe-desk-enter-spec 𝓤 H 𝓜 𝓖 𝓡 =
     (_ ∷ _ ∷ _ ∷ _ ∷ _ ∷ _ ∷ _ ∷ []) refl
     (and-then ! (here ! 1 refl) (and-then ! (here ! 11 refl) (and-then ! (here ! 9 refl)
     (and-then ! (here ! 7 refl) (and-then ! (here ! 5 refl)
-    (and-then ! (here ! 3 refl) (and-then ! (large ! (record { fits = lit< tt })) (no-more !)))))))) (ends 𝓤 H (𝓖 .A) W (𝓜 .mem) (𝓡 .run) κs shares a))
+    (and-then ! (here ! 3 refl) (and-then ! (large ! (record { fits = lit< tt })) (no-more !))))))))
+    (ends 𝓤 H (𝓖 .A) W (𝓜 .mem) (𝓡 .run) κs shares a))
