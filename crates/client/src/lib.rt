@@ -8,7 +8,7 @@ use transfer::Order;
 
 // The answers in the order of the calls.
 #[repr(C)]
-#[derive(Drop)]
+#[derive(Clone, Copy)]
 pub struct Seen {
     pub entered: Answer,
     pub sent: Answer,

@@ -9,7 +9,7 @@ use transfer::{Next, Transfer};
 
 // The places from `first` up to `last` each take what stands behind them, then `slot` comes to the place `at`; the line's length and
 // the counter of the next frame afterwards; and what the call answers. Where the record is `kept`, only the answer counts.
-#[derive(Drop)]
+#[derive(Clone, Copy)]
 pub struct Change {
     pub answer: Answer,
     pub first: usize,

@@ -19,7 +19,7 @@ pub const FIRST_COUNTER: u8 = 1;
 
 // The line in the first `waiting` slots, by order of entry, and blanks behind it; the counter of the next frame.
 #[repr(C)]
-#[derive(Drop)]
+#[derive(Clone, Copy)]
 pub struct Desk {
     pub line: [Slot; 8],
     pub waiting: usize,
@@ -28,7 +28,7 @@ pub struct Desk {
 
 // What a call gives back.
 #[repr(C)]
-#[derive(Drop)]
+#[derive(Clone, Copy)]
 pub struct Called {
     pub answer: Answer,
     pub desk: Desk,

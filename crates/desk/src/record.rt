@@ -9,14 +9,14 @@ use transfer::{Order, Transfer};
 
 // A seat and its transfer.
 #[repr(C)]
-#[derive(Drop)]
+#[derive(Clone, Copy)]
 pub struct Slot {
     pub seat: u8,
     pub transfer: Transfer,
 }
 
 // Whose turn it is: the head's transfer, or the number of the refusal.
-#[derive(Drop)]
+#[derive(Clone, Copy)]
 pub enum Turn {
     Head(Transfer),
     Refused(u8),

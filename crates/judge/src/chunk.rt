@@ -2,7 +2,7 @@
 ghost use Rattle.std.specs.Prelude.{◌≡◌, ◌-◌};
 ghost use Rattle.judge.specs.Chunk.{lacking, chunk_at};
 
-#[derive(Drop)]
+#[derive(Clone, Copy)]
 pub enum Chunk {
     // The sum of the earlier chunks and this one.
     There(u32),

@@ -14,13 +14,13 @@ use mailbox::sdo::SdoHeader;
 use mailbox::segment::SdoHeaderSegmented;
 
 // What stands before byte 8.
-#[derive(Drop)]
+#[derive(Clone, Copy)]
 pub struct Front {
     pub mailbox: MailboxHeader,
     pub service: CoeService,
 }
 
-#[derive(Drop)]
+#[derive(Clone, Copy)]
 pub enum FrontRead {
     Front(Front),
     // Service 1: no SDO header follows.
@@ -48,14 +48,14 @@ fn read_front(s: &[u8], least: usize) -> FrontRead
     FrontRead::Front(Front { mailbox, service })
 }
 
-#[derive(Drop)]
+#[derive(Clone, Copy)]
 pub struct Headers {
     pub mailbox: MailboxHeader,
     pub service: CoeService,
     pub sdo: SdoHeader,
 }
 
-#[derive(Drop)]
+#[derive(Clone, Copy)]
 pub enum HeadersRead {
     Headers(Headers),
     Emergency,
@@ -85,14 +85,14 @@ pub(crate) fn read_headers(s: &[u8]) -> HeadersRead
     }
 }
 
-#[derive(Drop)]
+#[derive(Clone, Copy)]
 pub struct SegmentHeaders {
     pub mailbox: MailboxHeader,
     pub service: CoeService,
     pub segment: SdoHeaderSegmented,
 }
 
-#[derive(Drop)]
+#[derive(Clone, Copy)]
 pub enum SegmentHeadersRead {
     Headers(SegmentHeaders),
     Emergency,
@@ -122,14 +122,14 @@ pub(crate) fn read_segment_headers(s: &[u8]) -> SegmentHeadersRead
     }
 }
 
-#[derive(Drop)]
+#[derive(Clone, Copy)]
 pub struct InformationHeaders {
     pub mailbox: MailboxHeader,
     pub service: CoeService,
     pub information: SdoInfoHeader,
 }
 
-#[derive(Drop)]
+#[derive(Clone, Copy)]
 pub enum InformationHeadersRead {
     Headers(InformationHeaders),
     Undecodable,

@@ -21,7 +21,7 @@ pub use storage::store;
 pub use upload::judge_upload;
 
 // A chunk is the reply's len bytes from byte `from` on; sum is the earlier chunks and this one.
-#[derive(Drop)]
+#[derive(Clone, Copy)]
 pub enum Verdict {
     Refused(u8),
     // Its eight bytes as one number. With its fields apart, or an abort's in another order, each judge is more than the compiler puts into
@@ -54,7 +54,7 @@ pub enum Verdict {
 
 // The table's number and the values that go with it, 0 where one plays no part.
 #[repr(C)]
-#[derive(Drop)]
+#[derive(Clone, Copy)]
 pub struct Answer {
     pub number: u8,
     pub sub: u8,

@@ -11,21 +11,21 @@ use reads::typed;
 use reads::typed::{SignedRead, UnsignedRead};
 
 #[repr(C)]
-#[derive(Drop)]
+#[derive(Clone, Copy)]
 pub struct Unsigned {
     pub number: u8,
     pub value: u32,
 }
 
 #[repr(C)]
-#[derive(Drop)]
+#[derive(Clone, Copy)]
 pub struct Signed {
     pub number: u8,
     pub value: i32,
 }
 
 #[repr(C)]
-#[derive(Drop)]
+#[derive(Clone, Copy)]
 pub struct Item {
     pub number: u8,
     pub index: u16,
@@ -33,7 +33,7 @@ pub struct Item {
 }
 
 #[repr(C)]
-#[derive(Drop)]
+#[derive(Clone, Copy)]
 pub struct Quantities {
     pub number: u8,
     pub all: u16,

@@ -5,7 +5,7 @@ ghost use Rattle.mailbox.specs.Headers.{coe_header_bytes, read_coe_header};
 use crate::numbers::{CoeService, ListedService};
 use crate::outcome::CoeHeaderRead;
 
-#[derive(Drop)]
+#[derive(Clone, Copy)]
 pub struct CoeHeader {
     pub service: CoeService,
 }

@@ -6,7 +6,7 @@ use crate::flag::bit_of;
 use crate::numbers::{ListedOpCode, SdoInfoOpCode};
 use crate::outcome::SdoInfoHeaderRead;
 
-#[derive(Drop)]
+#[derive(Clone, Copy)]
 pub struct SdoInfoHeader {
     pub op_code: SdoInfoOpCode,
     pub incomplete: bool,

@@ -2,7 +2,7 @@
 ghost use Rattle.std.specs.Prelude.{◌≡◌};
 ghost use Rattle.mailbox.specs.Numbers.{priority_number, priority_of, type_number, type_of, service_number, service_of, command_number, command_of, operation_number, operation_of};
 
-#[derive(Drop)]
+#[derive(Clone, Copy)]
 pub enum Priority {
     Lowest,
     Low,
@@ -36,7 +36,7 @@ impl Priority {
     }
 }
 
-#[derive(Drop)]
+#[derive(Clone, Copy)]
 pub enum MailboxType {
     // Error.
     Err,
@@ -53,7 +53,7 @@ pub enum MailboxType {
     VendorSpecific,
 }
 
-#[derive(Drop)]
+#[derive(Clone, Copy)]
 pub enum ListedType {
     Listed(MailboxType),
     Unlisted,
@@ -90,7 +90,7 @@ impl MailboxType {
     }
 }
 
-#[derive(Drop)]
+#[derive(Clone, Copy)]
 pub enum CoeService {
     Emergency,
     SdoRequest,
@@ -102,7 +102,7 @@ pub enum CoeService {
     SdoInformation,
 }
 
-#[derive(Drop)]
+#[derive(Clone, Copy)]
 pub enum ListedService {
     Listed(CoeService),
     Unlisted,
@@ -141,7 +141,7 @@ impl CoeService {
     }
 }
 
-#[derive(Drop)]
+#[derive(Clone, Copy)]
 pub enum CoeCommand {
     // CiA 301 gives 0 to a segment reply; the Rust does not list it.
     Segment,
@@ -151,7 +151,7 @@ pub enum CoeCommand {
     Abort,
 }
 
-#[derive(Drop)]
+#[derive(Clone, Copy)]
 pub enum ListedCommand {
     Listed(CoeCommand),
     Unlisted,
@@ -184,7 +184,7 @@ impl CoeCommand {
     }
 }
 
-#[derive(Drop)]
+#[derive(Clone, Copy)]
 pub enum SdoInfoOpCode {
     GetObjectDescriptionListRequest,
     GetObjectDescriptionListResponse,
@@ -195,7 +195,7 @@ pub enum SdoInfoOpCode {
     SdoInfoErrorRequest,
 }
 
-#[derive(Drop)]
+#[derive(Clone, Copy)]
 pub enum ListedOpCode {
     Listed(SdoInfoOpCode),
     Unlisted,

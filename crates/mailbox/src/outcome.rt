@@ -5,31 +5,31 @@ use crate::information::SdoInfoHeader;
 use crate::sdo::SdoHeader;
 use crate::segment::SdoHeaderSegmented;
 
-#[derive(Drop)]
+#[derive(Clone, Copy)]
 pub enum MailboxHeaderRead {
     Header(MailboxHeader),
     Undecodable,
 }
 
-#[derive(Drop)]
+#[derive(Clone, Copy)]
 pub enum CoeHeaderRead {
     Header(CoeHeader),
     Undecodable,
 }
 
-#[derive(Drop)]
+#[derive(Clone, Copy)]
 pub enum SdoHeaderRead {
     Header(SdoHeader),
     Undecodable,
 }
 
-#[derive(Drop)]
+#[derive(Clone, Copy)]
 pub enum SdoHeaderSegmentedRead {
     Header(SdoHeaderSegmented),
     Undecodable,
 }
 
-#[derive(Drop)]
+#[derive(Clone, Copy)]
 pub enum SdoInfoHeaderRead {
     Header(SdoInfoHeader),
     Undecodable,

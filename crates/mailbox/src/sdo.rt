@@ -6,7 +6,7 @@ use crate::flag::bit_of;
 use crate::numbers::{CoeCommand, ListedCommand};
 use crate::outcome::SdoHeaderRead;
 
-#[derive(Drop)]
+#[derive(Clone, Copy)]
 pub struct SdoHeader {
     pub size_indicator: bool,
     pub expedited_transfer: bool,

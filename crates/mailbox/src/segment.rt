@@ -6,7 +6,7 @@ use crate::flag::bit_of;
 use crate::numbers::{CoeCommand, ListedCommand};
 use crate::outcome::SdoHeaderSegmentedRead;
 
-#[derive(Drop)]
+#[derive(Clone, Copy)]
 pub struct SdoHeaderSegmented {
     pub is_last_segment: bool,
     pub segment_data_size: u8,

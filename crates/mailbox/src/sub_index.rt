@@ -3,7 +3,7 @@ ghost use Rattle.std.specs.Prelude.{◌≡◌};
 ghost use Rattle.mailbox.specs.Headers.{is_complete, sub_index_of};
 
 // Which part of an object is meant: all of it, or one sub-index.
-#[derive(Drop)]
+#[derive(Clone, Copy)]
 pub enum SubIndex {
     Complete,
     Index(u8),

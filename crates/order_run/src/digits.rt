@@ -12,7 +12,7 @@ pub const LONGEST: usize = 1486;
 const NONE: u8 = 16;
 
 // How many bytes there are, and the first digit of one that is begun.
-#[derive(Drop)]
+#[derive(Clone, Copy)]
 pub struct Part {
     pub count: usize,
     pub half: u8,

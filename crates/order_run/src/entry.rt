@@ -5,7 +5,7 @@ ghost use Rattle.order_run.specs.Entry.{is_form, order_with, download_of, form_o
 use transfer::Order;
 use transfer::entry::DEFAULT_BUDGET;
 
-#[derive(Drop)]
+#[derive(Clone, Copy)]
 pub enum Form {
     Listed(Order),
     Unlisted,

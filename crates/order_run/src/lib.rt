@@ -21,7 +21,7 @@ pub const PIECE: usize = 4096;
 pub const ROOM: usize = 143363;
 
 // Where a run stands between two pieces: the desk, the phase, and the line that has no end yet.
-#[derive(Drop)]
+#[derive(Clone, Copy)]
 pub struct Run {
     pub desk: Desk,
     pub phase: u8,
@@ -29,7 +29,7 @@ pub struct Run {
 }
 
 // The run after a piece, and how many characters to print stand at the front of the output.
-#[derive(Drop)]
+#[derive(Clone, Copy)]
 pub struct Fed {
     pub run: Run,
     pub printed: usize,

@@ -21,7 +21,7 @@ pub const REPLY: u8 = 1;
 pub const OVER: u8 = 2;
 
 // The run after a line: its desk, its phase, and the place behind what it has printed.
-#[derive(Drop)]
+#[derive(Clone, Copy)]
 pub struct Turn {
     pub desk: Desk,
     pub phase: u8,

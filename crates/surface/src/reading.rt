@@ -7,7 +7,7 @@ use linked::reading::{Item, Quantities, Signed, Unsigned};
 
 // The first 1, 2 and 4 bytes of a payload, unsigned and signed.
 #[repr(C)]
-#[derive(Drop)]
+#[derive(Clone, Copy)]
 pub struct Typed {
     pub byte: Unsigned,
     pub word: Unsigned,

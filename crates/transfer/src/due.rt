@@ -8,7 +8,7 @@ use crate::{Order, Transfer};
 use services::Request;
 
 // What the reply answers; begun: whether a fragment of the list came before.
-#[derive(Drop)]
+#[derive(Clone, Copy)]
 pub enum Reply {
     Upload { index: u16, sub: u8 },
     Download { index: u16, sub: u8 },
@@ -16,7 +16,7 @@ pub enum Reply {
     Fragment { begun: bool },
 }
 
-#[derive(Drop)]
+#[derive(Clone, Copy)]
 pub enum Due {
     Request(Request),
     Reply(Reply),

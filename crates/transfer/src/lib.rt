@@ -18,7 +18,7 @@ mod stage;
 // What a task asks for. Kinds: 1 upload, 2 complete upload, 3 download, 4 object list, whose list kind stands in index,
 // 5 quantities, 6 complete download. A download's data are the first `len` bytes of value, low byte first.
 #[repr(C)]
-#[derive(Drop)]
+#[derive(Clone, Copy)]
 pub struct Order {
     pub kind: u8,
     pub sub: u8,
@@ -31,7 +31,7 @@ pub struct Order {
 // Where a transfer stands: what is due (the numbers of the module stage), the toggle of the next segment's request, how many replies
 // its budget still has, and the sum of the chunks so far.
 #[repr(C)]
-#[derive(Drop)]
+#[derive(Clone, Copy)]
 pub struct Transfer {
     pub order: Order,
     pub stage: u8,
@@ -40,26 +40,26 @@ pub struct Transfer {
     pub sum: u32,
 }
 
-#[derive(Drop)]
+#[derive(Clone, Copy)]
 pub enum Start {
     Begun(Transfer),
     Refused(u8),
 }
 
-#[derive(Drop)]
+#[derive(Clone, Copy)]
 pub enum Sending {
     Sent(Transfer),
     Refused(u8),
 }
 
 // The transfer after a judged reply.
-#[derive(Drop)]
+#[derive(Clone, Copy)]
 pub enum Next {
     Over,
     On(Transfer),
 }
 
-#[derive(Drop)]
+#[derive(Clone, Copy)]
 pub enum Step {
     Judged(Answer, Next),
     Refused(u8),

@@ -1,0 +1,11 @@
+-- `SdoInfoHeader::pack` meets its contract: its bytes are those that its table packs to.
+use mathlib.Core.Path.{◌∙◌}
+use borrow.Author.Rules.{rules}
+use Rattle.mailbox.specs.Headers.{sdo_info_bytes}
+use Rattle.mailbox.proofs.Packing.{info_bytes}
+use Rattle.mailbox.proofs.information.SdoInfoHeader.pack.Goals as goal
+
+pub returns : goal.returns
+unfolding sdo_info_bytes
+returns c =
+    info_bytes c.number.result c.bit_of.result c.args.self.fragments_left (search rules) (search rules) ∙ cc

@@ -1,0 +1,15 @@
+-- `SdoHeader::pack` meets its contract: its bytes are those that its table packs to.
+use mathlib.Core.Path.{◌∙◌}
+use borrow.Author.Rules.{rules}
+use Rattle.mailbox.specs.Headers.{sdo_header_bytes}
+use Rattle.mailbox.proofs.Packing.{sdo_bytes}
+use Rattle.mailbox.proofs.sdo.SdoHeader.pack.Goals as goal
+
+pub returns : goal.returns
+unfolding sdo_header_bytes
+returns c =
+    let a = c.args.self in
+    let known = c.struct_known-3-1.given.1.1.1.1.1 in
+    sdo_bytes c.bit_of.result c.bit_of-2.result a.size c.bit_of-3.result c.number.result a.index a.sub_index
+    (search rules) (search rules) (search rules) known.0.fits known.1.0.fits
+    ∙ cc

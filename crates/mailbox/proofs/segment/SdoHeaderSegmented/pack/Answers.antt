@@ -1,0 +1,13 @@
+-- `SdoHeaderSegmented::pack` meets its contract: its bytes are those that its table packs to.
+use mathlib.Core.Path.{◌∙◌}
+use borrow.Author.Rules.{rules}
+use Rattle.mailbox.specs.Headers.{segmented_bytes}
+use Rattle.mailbox.proofs.Packing.{segmented_bytes_lem}
+use Rattle.mailbox.proofs.segment.SdoHeaderSegmented.pack.Goals as goal
+
+pub returns : goal.returns
+unfolding segmented_bytes
+returns c =
+    segmented_bytes_lem c.bit_of.result c.args.self.segment_data_size c.bit_of-2.result c.number.result
+    (search rules) (search rules)
+    ∙ cc
