@@ -6,4 +6,4 @@ use Rattle.services.proofs.packing.joined.Goals as goal
 pub returns : goal.returns
 returns c =
     let a = c.args in
-    four_spelled a.t1 a.t2 a.t3 a.t4 (omega arith) (omega arith) (omega arith) (omega arith)
+    four_spelled a.mailbox a.service a.header a.rest (omega arith) (omega arith) (omega arith) (omega arith)

@@ -10,6 +10,6 @@ returns c =
     let a = c.args in
     let b = c.pack-header.result in
     c.joined.ensures
-    ∙ ap (λ l. c.pack.result ++ (c.pack-2.result ++ ((l ++ (0 ∷ 0 ∷ 0 ∷ [])) ++ (0 ∷ 0 ∷ 0 ∷ 0 ∷ [])))) (spelled 1 b c.pack-header.type-inv.1.0.1)
+    ∙ ap (λ l. c.pack.result ++ (c.pack-2.result ++ ((l ++ (0 ∷ 0 ∷ 0 ∷ [])) ++ (0 ∷ 0 ∷ 0 ∷ 0 ∷ [])))) (spelled 1 b c.pack-header.type_inv.1.0.1)
     ∙ rw (c.pack.ensures, c.mailbox_header.ensures, c.pack-2.ensures, c.pack-header.ensures, c.segment_header.ensures)
     (segment_is a.counter a.toggle)
