@@ -4,6 +4,4 @@ pub mod AnyWidth
 pub mod WholeList
 pub mod Yielded
 pub mod Taking
-pub mod Again
-pub mod Within
 pub mod Counts

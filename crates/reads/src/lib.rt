@@ -1,5 +1,7 @@
 // Reads of a finished payload: typed values, the object list item by item and whole, and the five quantities. Each takes any bytes and
 // any position, and refuses what cannot be read with the number of what is undecodable.
+#![tactic(auto)]
+
 pub mod list;
 pub mod quantities;
 pub mod reader;
