@@ -91,7 +91,7 @@ module _ {M : Machine} where
       let D : Distinct ((s, t) ∷ tail d.line) = rw e at S.distinct in
       rw (R.4, over) D.0
 
-  frees_move : {d : Desk M} {r : Desk M × Outcome M} (s : ℕ) → Move M (leave s) d r → Distinct d.line → r.1 ≡ left
+  frees_move : (s : ℕ) {d : Desk M} {r : Desk M × Outcome M} → Move M (leave s) d r → Distinct d.line → r.1 ≡ left
       → seated s r.0.line ≡ false
   unfolding is_accepted
   frees_move s (stays n) D h = accepted≢refused left refl (sym h)

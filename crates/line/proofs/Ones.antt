@@ -1,8 +1,8 @@
 -- What `transfers` reads off accepted calls are transfers, an entry and accepted calls of its own, and no call is lost by it.
 -- Assumes nothing.
-use mathlib.Core.Path.{◌≡◌, refl, ap}
+use mathlib.Core.Path.{◌≡◌, refl, sym, ap, ◌∙◌}
 use mathlib.Core.Bool.{Bool, true}
-use mathlib.Core.List.{List, [], ◌∷◌, flatten}
+use mathlib.Core.List.{List, [], ◌∷◌, ◌++◌, flatten}
 use Prim.Native.Nat.{ℕ}
 use borrow.Author.Tests.{eqb-true}
 use lib.Dec.{eqb}
@@ -44,7 +44,7 @@ all_calls s [] = refl
 all_calls s (x ∷ xs) =
     by (eqb s (seat_of x.call))
     (λ y. by (is_enter x.call)
-    (λ e. rw (y, e, y, ← eqb-true s (seat_of x.call) y) (ap (λ r. x ∷ r) (all_calls s xs)))
+    (λ e. rw (y, e, y) (ap (λ r. x ∷ own r xs ++ served_at s xs) (sym (eqb-true s (seat_of x.call) y)) ∙ ap (λ r. x ∷ r) (all_calls s xs)))
     (λ n. rw (y, n) (ap (λ r. x ∷ r) (all_calls s xs))))
     (λ n. by (is_enter x.call)
     (λ e. rw (n, e, n) (all_calls s xs))

@@ -78,7 +78,7 @@ module _ (M : Machine) (N : Numbered M) where
   unfolding step judge tests first_of settled refusal_of
   refusal_order d (enter s e) =
       tested M d (no_seat s) 0x10 _ _ (tested M d (seated s d.line) 0x11 _ _
-      (machine_tested M d _ 0x15 (begin e) (N.at_entry_lem e) (λ t. refl)))
+      (machine_tested M d _ 0x15 (begin e) (N.at_entry e) (λ t. refl)))
   refusal_order d (send s b) =
       head_tested M d s _ _
       (λ t. tested M d (not (send_due t)) 0x14 _ _

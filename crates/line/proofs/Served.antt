@@ -5,7 +5,7 @@ use mathlib.Core.List.{List, [], ◌∷◌, map}
 use Rattle.line.specs.Lists.{Each}
 use Rattle.line.specs.Machine.{Machine}
 use Rattle.line.specs.Desk.{Pass, first, Call}
-use Rattle.line.specs.Stand.{Stand, calls, trace}
+use Rattle.line.specs.Stand.{Stand, calls, trace, after}
 use Rattle.line.specs.Alone.{one_by_one, listed_of, Begins, at_first, behind, Single, Served, NoPretender}
 use Rattle.line.proofs.Lists.{each_map}
 
@@ -22,7 +22,7 @@ module _ {M : Machine} {T : Type 0} (S : Stand M T) where
   each_single : (p : Pass) (kss : List (List (Call M))) → Begins S p → Each (Single S) (one_by_one S p kss)
   unfolding one_by_one
   each_single p [] b = tt
-  each_single p (ks ∷ kss) b = (single p ks b, each_single _ kss (behind ks b))
+  each_single p (ks ∷ kss) b = (single p ks b, each_single (S.pass (after S (S.fresh p) ks)) kss (behind ks b))
 
   module _ (ok : T → Bool) where
     pub served_of : Served S ok
