@@ -1,5 +1,7 @@
 // A line of lower-case hexadecimal to bytes, and bytes to text. What a line says is the definition line_of of specs/Lines.antt,
-// and the text of bytes is hexText of specs/Text.antt; that each undoes the other is in proofs/Back.antt.
+// and the text of bytes is hex_text of specs/Text.antt; that each undoes the other is in proofs/Back.antt.
+#![tactic(auto)]
+
 ghost use Rattle.std.specs.Prelude.{◌≡◌, false, ◌+◌, ◌-◌, ◌*◌, ◌/◌, ◌%◌, ◌<◌, ◌≤◌, min, length, get_or};
 ghost use Rattle.std.proofs.Math.Seq.{paste};
 ghost use Rattle.wire.specs.Store.{laid};
