@@ -67,7 +67,7 @@ module _ (s : List ℕ) (r q : SegmentHeadersRead) (e : r ≡ q) (f : SegmentHea
   pub headed_segment : (h : SegmentHeaders) (v : Verdict) → r ≡ SegmentHeadersRead.Headers h → v ≡ f h → v ≡ on_segment_headers s q f
   headed_segment h v t o = rw (← e, t, o)
 
-pub ruleset segment-order = (stopped, astray, heard, unheaded_segment, alarmed_segment, headed_segment)
+pub ruleset segment_order = (stopped, astray, heard, unheaded_segment, alarmed_segment, headed_segment)
 
 -- what stands before byte 8, as each reading of headers comes to it
 module _ {A : Type 0} (r q : FrontRead) (e : r ≡ q) (none emergency : A) (f : Front → A) where

@@ -1,6 +1,8 @@
 // Judging a reply: any bytes go in, one of document 01's numbers comes out, by the rules of "Judging a reply" in their order,
 // and the data buffer holds the chunk that the rules name. The Rust's coe/mod.rs: mailbox_write_read, sdo_read and
 // send_sdo_info_service. Here: what a judgement says, and its answer in numbers; a module for each rule.
+#![tactic(auto)]
+
 ghost use Rattle.std.specs.Prelude.{◌≡◌};
 ghost use Rattle.judge.specs.Answers.{plain_of, done_with, done_or, answer_of};
 

@@ -2,14 +2,12 @@
 use mathlib.Core.Path.{◌≡◌, sym}
 use Prim.Native.Nat.{ℕ, ◌+◌, ◌≤◌}
 use native.Mathlib.Omega.{arith}
-use borrow.Author.Rules.{rules}
 use borrow.Author.Tests.{lt-ltb, le-ltb, eqb-true}
 use lib.Dec.{ltb, eqb}
 use Rattle.wire.proofs.Cases.{by}
 use Rattle.judge.specs.Chunk.{lacking}
 use Rattle.judge.specs.Upload.{whole_of}
-use Rattle.judge.proofs.upload.whole.Statement.{statement}
-use Rattle.judge.proofs.upload.whole.Tie as tie
+use Rattle.judge.proofs.upload.whole.Goals as goal
 
 reached : (size from len : ℕ) → from ≤ size → lacking size from len ≡ ltb size (from + len)
 unfolding lacking
@@ -19,13 +17,12 @@ reached size from len h =
     rw e (sym (le-ltb size (from + len) (omega arith))))
     (λ e. rw e)
 
-returns : tie.Need-returns
+pub returns-then-size-len : goal.returns-then-size-len
 unfolding whole_of
-returns c = simp (reached c.before.args.size 16 c.before.args.len c.before.requires, lt-ltb _ _ c.if1.true)
+returns-then-size-len c =
+    simp (reached c.args.size 16 c.args.len c.requires, lt-ltb _ _ c.if-size-len.true)
 
-returns-2 : tie.Need-returns-2
+pub returns : goal.returns
 unfolding whole_of
-returns-2 c = simp (reached c.before.args.size 16 c.before.args.len c.before.requires, le-ltb _ _ c.if1.false)
-
-pub whole-spec : {M : Type 1} → statement M
-whole-spec = tie.close (tie.spec (λ c. search rules) (λ c. search rules) returns returns-2)
+returns c =
+    simp (reached c.args.size 16 c.args.len c.requires, le-ltb _ _ c.if-size-len.false)

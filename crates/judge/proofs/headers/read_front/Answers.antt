@@ -1,0 +1,29 @@
+-- `read_front` meets its contract: the length, then each header in turn and the service, picks its case of the definition.
+use borrow.Author.Tests.{le-ltb, lt-ltb, eq-eqb, ne_eqb}
+use Rattle.judge.specs.Headers.{read_front}
+use Rattle.judge.proofs.headers.read_front.Goals as goal
+
+pub returns-then-s-least : goal.returns-then-s-least
+unfolding read_front
+returns-then-s-least c =
+    simp (lt-ltb _ _ c.if-s-least.true)
+
+pub returns-in_default : goal.returns-in_default
+unfolding read_front
+returns-in_default c =
+    simp (le-ltb _ _ c.if-s-least.false, ← c.unpack.ensures, c.in_default.is)
+
+pub returns-in_default-unpack : goal.returns-in_default-unpack
+unfolding read_front
+returns-in_default-unpack c =
+    simp (le-ltb _ _ c.if-s-least.false, ← c.unpack.ensures, c.in-Header.is, ← c.unpack-2.ensures, c.in_default-unpack.is)
+
+pub returns-then-number-eq1 : goal.returns-then-number-eq1
+unfolding read_front
+returns-then-number-eq1 c =
+    simp (le-ltb _ _ c.if-s-least.false, ← c.unpack.ensures, c.in-Header.is, ← c.unpack-2.ensures, c.in-Header-unpack.is, ← c.number.ensures, eq-eqb _ _ c.if-number-eq1.true)
+
+pub returns : goal.returns
+unfolding read_front
+returns c =
+    simp (le-ltb _ _ c.if-s-least.false, ← c.unpack.ensures, c.in-Header.is, ← c.unpack-2.ensures, c.in-Header-unpack.is, ← c.number.ensures, ne_eqb _ _ c.if-number-eq1.false)

@@ -1,0 +1,19 @@
+-- `judge_list` meets its contract: the headers and the operation pick the case of the definition.
+use borrow.Author.Tests.{eq-eqb, ne_eqb}
+use Rattle.judge.specs.Information.{judge_list}
+use Rattle.judge.proofs.information.judge_list.Goals as goal
+
+pub returns-in_default : goal.returns-in_default
+unfolding judge_list
+returns-in_default c =
+    simp (← c.read_information_headers.ensures, c.in_default.is)
+
+pub returns-then-number-eq2 : goal.returns-then-number-eq2
+unfolding judge_list
+returns-then-number-eq2 c =
+    simp (← c.read_information_headers.ensures, c.in-Headers.is, ← c.number.ensures, eq-eqb _ _ c.if-number-eq2.true, ← c.fragment_at.ensures, ← c.fragment.ensures)
+
+pub returns : goal.returns
+unfolding judge_list
+returns c =
+    simp (← c.read_information_headers.ensures, c.in-Headers.is, ← c.number.ensures, ne_eqb _ _ c.if-number-eq2.false)

@@ -1,0 +1,14 @@
+-- `chunk_length` meets its contract: at each `return` the tests that led there pick the case.
+use borrow.Author.Tests.{eq-eqb, ne_eqb}
+use Rattle.judge.specs.Segment.{chunk_length}
+use Rattle.judge.proofs.segment.chunk_length.Goals as goal
+
+pub returns-then-len-eq7 : goal.returns-then-len-eq7
+unfolding chunk_length
+returns-then-len-eq7 c =
+    simp (← c.less-len.ensures, eq-eqb _ _ c.if-len-eq7.true, ← c.less.ensures)
+
+pub returns : goal.returns
+unfolding chunk_length
+returns c =
+    simp (← c.less-len.ensures, ne_eqb _ _ c.if-len-eq7.false)
