@@ -1,6 +1,8 @@
 // One transfer, which knows nothing of other transfers: how an order begins, which request is due, what a reply does. The loops of
 // the Rust's coe/mod.rs, sdo_read and sdo_write, as calls. Here: the records, which hold numbers only, and the three calls; in the
 // modules what may be entered, what is due, and what a judged reply comes to.
+#![tactic(auto)]
+
 ghost use Rattle.std.specs.Prelude.{◌≡◌};
 ghost use Rattle.transfer.specs.Coe.{begins_with, sends_if_due, receives_if_due, start_of, sending_of, frame_of, step_of, data_of};
 
