@@ -10,7 +10,7 @@ ghost use Rattle.order_text.specs.Lines.{has_bad, bytes_of, line_of, answer_of, 
 ghost use Rattle.order_text.specs.Text.{hex_text, text_in};
 
 // What a line says: how many bytes, or that it is none.
-#[derive(Drop)]
+#[derive(Clone, Copy)]
 pub enum Decoded {
     Bytes(usize),
     Bad,

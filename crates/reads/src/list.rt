@@ -4,7 +4,7 @@ ghost use Rattle.reads.specs.List.{odd, item_at};
 
 use crate::UNDECODABLE;
 
-#[derive(Drop)]
+#[derive(Clone, Copy)]
 pub enum ItemRead {
     Item { index: u16, next: usize },
     Refused(u8),

@@ -4,7 +4,7 @@ ghost use Rattle.reads.specs.Quantities.{quantities_read};
 
 use crate::UNDECODABLE;
 
-#[derive(Drop)]
+#[derive(Clone, Copy)]
 pub struct ObjectDescriptionListQueryCounts {
     pub all: u16,
     pub rx_pdo_mappable: u16,
@@ -13,7 +13,7 @@ pub struct ObjectDescriptionListQueryCounts {
     pub startup_parameters: u16,
 }
 
-#[derive(Drop)]
+#[derive(Clone, Copy)]
 pub enum QuantitiesRead {
     Counts(ObjectDescriptionListQueryCounts),
     Refused(u8),

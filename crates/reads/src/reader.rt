@@ -5,14 +5,14 @@ ghost use Rattle.reads.specs.Reader.{at_start, step_from, moved_on};
 
 use crate::list::{ItemRead, item_at};
 
-#[derive(Drop)]
+#[derive(Clone, Copy)]
 pub struct ListReader<'a> {
     pub payload: &'a [u8],
     pub at: usize,
 }
 
 // An item, and the position after it: the same where it was refused.
-#[derive(Drop)]
+#[derive(Clone, Copy)]
 pub struct Stepped {
     pub item: ItemRead,
     pub at: usize,

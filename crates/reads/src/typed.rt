@@ -5,13 +5,13 @@ ghost use Rattle.reads.specs.Typed.{unsigned_read, signed_read};
 
 use crate::UNDECODABLE;
 
-#[derive(Drop)]
+#[derive(Clone, Copy)]
 pub enum UnsignedRead {
     Value(u32),
     Refused(u8),
 }
 
-#[derive(Drop)]
+#[derive(Clone, Copy)]
 pub enum SignedRead {
     Value(i32),
     Refused(u8),

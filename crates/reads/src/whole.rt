@@ -9,14 +9,14 @@ use crate::list::{ItemRead, odd};
 use crate::reader::{new, next};
 
 // How many indices the payload has; where there is room for fewer, only those are stored.
-#[derive(Drop)]
+#[derive(Clone, Copy)]
 pub enum ListRead {
     Items(usize),
     Refused(u8),
 }
 
 // How many items were taken, and whether another is to be asked for.
-#[derive(Drop)]
+#[derive(Clone, Copy)]
 struct Took {
     count: usize,
     more: bool,
