@@ -1,6 +1,8 @@
 // The desk: up to eight transfers that take turns at one mailbox, as a record by value and the calls that give it back. Each call is
 // one step of line's desk with the CoE machine. Here: the record and the calls, each with what it changes; in the module record the
 // slots, in the module change what a change is.
+#![tactic(auto)]
+
 ghost use Rattle.line.specs.Desk.{first_counter, Call};
 ghost use Rattle.desk.specs.Record.{Good, counter_from};
 ghost use Rattle.desk.specs.Calls.{Fresh, Gives, GivesLent};

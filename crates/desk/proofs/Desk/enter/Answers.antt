@@ -1,0 +1,8 @@
+-- `enter` meets its contract: the change is made.
+use mathlib.Core.Path.{◌∙◌}
+use Rattle.desk.proofs.Kept.{gives}
+use Rattle.desk.proofs.Desk.enter.Goals as goal
+
+pub returns : goal.returns
+returns c =
+    gives _ c.requires _ _ (c.changed.ensures ∙ c.entering.ensures.makes)
