@@ -1,5 +1,7 @@
 // A caller of the desk: one order from entry to leave, on lent buffers. It has its contract from the calls' contracts alone, so it
 // shows that they chain, and that the run of the stand, of which demand 3 speaks, is what a caller sees.
+#![tactic(auto)]
+
 ghost use Rattle.client.specs.RunSeen.{RunSeen};
 
 use desk::Desk;

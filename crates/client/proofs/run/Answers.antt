@@ -1,0 +1,9 @@
+-- `run` meets its contract: each call's promise is one step of the run, and the record that it gives is good for the next.
+use Rattle.client.proofs.Steps.{four}
+use Rattle.client.proofs.run.Goals as goal
+
+pub returns : goal.returns
+returns c =
+    let a = c.args in
+    four a.seat a.order a.frame.now a.reply.now a.buffer.now _ _ _ _ _ _ _
+    c.fresh-fresh.ensures c.enter-first.ensures c.send-second.ensures c.receive-third.ensures c.leave-fourth.ensures
