@@ -130,7 +130,7 @@ pub(crate) fn moves_on(answer: Answer, desk: Desk, seat: u8, next: Next) -> Chan
     }
 }
 
-// `calledBy` by value.
+// `called_by` by value.
 pub fn changed(desk: Desk, change: Change) -> Called
     requires { Within change }
     ensures { result ≡ called_by change desk }

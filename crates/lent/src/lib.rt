@@ -1,5 +1,7 @@
 // The desk as a host has it: one record, lent to every call. Each call reads it, asks the desk by value what changes, and makes that
 // change in the record.
+#![tactic(auto)]
+
 ghost use Rattle.std.specs.Prelude.{◌≡◌};
 ghost use Rattle.line.specs.Desk.{first_counter, Call};
 ghost use Rattle.desk.specs.Record.{Good};
@@ -15,7 +17,7 @@ use order::order_from;
 
 pub mod order;
 
-// `calledBy` where the record lies.
+// `called_by` where the record lies.
 fn apply(desk: &mut Desk, change: Change) -> Answer
     requires { Within change }
     ensures { found result desk.new ≡ called_by change desk.old }
