@@ -7,21 +7,13 @@ ghost use Rattle.services.specs.declared.Request.{Request};
 
 use services::numbered;
 
-#[unsafe(no_mangle)]
-pub extern "C" fn coe_upload_frame(
-    counter: u8,
-    index: u16,
-    sub: u8,
-    complete: u8,
-    frame: &mut [u8],
-) -> u8
+pub fn coe_upload_frame(counter: u8, index: u16, sub: u8, complete: u8, frame: &mut [u8]) -> u8
     ensures { Frames (is_flag complete) counter (Request.Upload index (access_of sub complete)) frame.old result frame.new }
 {
     numbered::upload_frame(counter, index, sub, complete, frame)
 }
 
-#[unsafe(no_mangle)]
-pub extern "C" fn coe_download_frame(
+pub fn coe_download_frame(
     counter: u8,
     index: u16,
     sub: u8,
@@ -34,15 +26,13 @@ pub extern "C" fn coe_download_frame(
     numbered::download_frame(counter, index, sub, complete, bytes, frame)
 }
 
-#[unsafe(no_mangle)]
-pub extern "C" fn coe_segment_frame(counter: u8, toggle: u8, frame: &mut [u8]) -> u8
+pub fn coe_segment_frame(counter: u8, toggle: u8, frame: &mut [u8]) -> u8
     ensures { Frames (is_flag toggle) counter (Request.Segment (eqb toggle 1)) frame.old result frame.new }
 {
     numbered::segment_frame(counter, toggle, frame)
 }
 
-#[unsafe(no_mangle)]
-pub extern "C" fn coe_list_frame(counter: u8, kind: u16, frame: &mut [u8]) -> u8
+pub fn coe_list_frame(counter: u8, kind: u16, frame: &mut [u8]) -> u8
     ensures { Frames true counter (Request.Information kind) frame.old result frame.new }
 {
     numbered::list_frame(counter, kind, frame)

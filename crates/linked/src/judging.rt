@@ -115,8 +115,7 @@ fn told_of(kind: u8, verdict: Verdict) -> Answer
     }
 }
 
-#[unsafe(no_mangle)]
-pub extern "C" fn coe_judge(
+pub fn coe_judge(
     kind: u8,
     index: u16,
     sub: u8,

@@ -1,4 +1,4 @@
-// The desk over the record that the host lends: the calls of lent, exported.
+// The desk over the record that the host lends: the calls of lent, as linked_c exports them.
 ghost use Rattle.line.specs.Desk.{first_counter, Call};
 ghost use Rattle.transfer.specs.Entry.{default_budget};
 ghost use Rattle.desk.specs.Record.{Good};
@@ -10,16 +10,14 @@ use desk::Desk;
 use judge::Answer;
 use transfer::entry::DEFAULT_BUDGET;
 
-#[unsafe(no_mangle)]
-pub extern "C" fn coe_desk_fresh(desk: &mut Desk)
+pub fn coe_desk_fresh(desk: &mut Desk)
     ensures { Fresh first_counter desk.new }
 {
     lent::fresh(desk)
 }
 
 // With the default budget.
-#[unsafe(no_mangle)]
-pub extern "C" fn coe_desk_enter(
+pub fn coe_desk_enter(
     desk: &mut Desk,
     seat: u8,
     kind: u8,
@@ -33,8 +31,7 @@ pub extern "C" fn coe_desk_enter(
     lent::enter(desk, seat, kind, index, sub, bytes, DEFAULT_BUDGET)
 }
 
-#[unsafe(no_mangle)]
-pub extern "C" fn coe_desk_enter_within(
+pub fn coe_desk_enter_within(
     desk: &mut Desk,
     seat: u8,
     kind: u8,
@@ -49,29 +46,21 @@ pub extern "C" fn coe_desk_enter_within(
     lent::enter(desk, seat, kind, index, sub, bytes, budget)
 }
 
-#[unsafe(no_mangle)]
-pub extern "C" fn coe_desk_send(desk: &mut Desk, seat: u8, frame: &mut [u8]) -> Answer
+pub fn coe_desk_send(desk: &mut Desk, seat: u8, frame: &mut [u8]) -> Answer
     requires { Good desk.old }
     ensures { GivesLent desk.old (Call.send seat frame.old) (found result desk.new) frame.old frame.new }
 {
     lent::send(desk, seat, frame)
 }
 
-#[unsafe(no_mangle)]
-pub extern "C" fn coe_desk_receive(
-    desk: &mut Desk,
-    seat: u8,
-    reply: &[u8],
-    buffer: &mut [u8],
-) -> Answer
+pub fn coe_desk_receive(desk: &mut Desk, seat: u8, reply: &[u8], buffer: &mut [u8]) -> Answer
     requires { Good desk.old }
     ensures { GivesLent desk.old (Call.receive seat (reply.now, buffer.old)) (found result desk.new) buffer.old buffer.new }
 {
     lent::receive(desk, seat, reply, buffer)
 }
 
-#[unsafe(no_mangle)]
-pub extern "C" fn coe_desk_leave(desk: &mut Desk, seat: u8) -> Answer
+pub fn coe_desk_leave(desk: &mut Desk, seat: u8) -> Answer
     requires { Good desk.old }
     ensures { Gives desk.old (Call.leave seat) (found result desk.new) }
 {

@@ -61,51 +61,44 @@ fn signed_of(read: SignedRead) -> Signed
     }
 }
 
-#[unsafe(no_mangle)]
-pub extern "C" fn coe_read_u8(payload: &[u8]) -> Unsigned
+pub fn coe_read_u8(payload: &[u8]) -> Unsigned
     ensures { result ≡ unsigned_of (unsigned_read 1 payload.now) }
 {
     unsigned_of(typed::read_u8(payload))
 }
 
-#[unsafe(no_mangle)]
-pub extern "C" fn coe_read_u16(payload: &[u8]) -> Unsigned
+pub fn coe_read_u16(payload: &[u8]) -> Unsigned
     ensures { result ≡ unsigned_of (unsigned_read 2 payload.now) }
 {
     unsigned_of(typed::read_u16(payload))
 }
 
-#[unsafe(no_mangle)]
-pub extern "C" fn coe_read_u32(payload: &[u8]) -> Unsigned
+pub fn coe_read_u32(payload: &[u8]) -> Unsigned
     ensures { result ≡ unsigned_of (unsigned_read 4 payload.now) }
 {
     unsigned_of(typed::read_u32(payload))
 }
 
-#[unsafe(no_mangle)]
-pub extern "C" fn coe_read_i8(payload: &[u8]) -> Signed
+pub fn coe_read_i8(payload: &[u8]) -> Signed
     ensures { result ≡ signed_of (signed_read 1 payload.now) }
 {
     signed_of(typed::read_i8(payload))
 }
 
-#[unsafe(no_mangle)]
-pub extern "C" fn coe_read_i16(payload: &[u8]) -> Signed
+pub fn coe_read_i16(payload: &[u8]) -> Signed
     ensures { result ≡ signed_of (signed_read 2 payload.now) }
 {
     signed_of(typed::read_i16(payload))
 }
 
-#[unsafe(no_mangle)]
-pub extern "C" fn coe_read_i32(payload: &[u8]) -> Signed
+pub fn coe_read_i32(payload: &[u8]) -> Signed
     ensures { result ≡ signed_of (signed_read 4 payload.now) }
 {
     signed_of(typed::read_i32(payload))
 }
 
 // A refused item has the index 0, and `next` is `at`.
-#[unsafe(no_mangle)]
-pub extern "C" fn coe_list_item(payload: &[u8], at: usize) -> Item
+pub fn coe_list_item(payload: &[u8], at: usize) -> Item
     ensures { result ≡ item_of at (item_at payload.now at) }
 {
     let read = item_at(payload, at);
@@ -123,8 +116,7 @@ pub extern "C" fn coe_list_item(payload: &[u8], at: usize) -> Item
     }
 }
 
-#[unsafe(no_mangle)]
-pub extern "C" fn coe_read_quantities(payload: &[u8]) -> Quantities
+pub fn coe_read_quantities(payload: &[u8]) -> Quantities
     ensures { result ≡ quantities_of (quantities_read payload.now) }
 {
     let read = read_quantities(payload);
