@@ -23,7 +23,7 @@ wireshark:
 	@tools/wireshark/run
 
 bench:
-	@tools/build order
+	@tools/build --objects order
 	@tools/bench
 
 stored:

@@ -55,23 +55,24 @@ fn archive_dir() -> PathBuf {
 
 fn build_archive(root: &Path, dir: &Path) {
     let missing = format!("{ARCHIVE} is missing: COE_DESK_LIB_DIR is not set, and there is none in {}.", dir.display());
-    let built = Command::new("rt").args(["staticlib", "linked"]).current_dir(root).output();
+    let tool = root.join("tools/archive");
+    let built = Command::new(&tool).output();
     match built {
         Err(_) => fail(&format!(
             "{missing}\n\
-             It could not be built either: `rt`, the Rattle toolchain's command, did not start.\n\
-             Install the kit and run `rt staticlib linked` in {}, or set COE_DESK_LIB_DIR to the folder of a built {ARCHIVE}.",
-            root.display()
+             It could not be built either: {} did not start.\n\
+             Set COE_DESK_LIB_DIR to the folder of a built {ARCHIVE}.",
+            tool.display()
         )),
         Ok(output) if !output.status.success() => fail(&format!(
-            "{missing}\nIt could not be built either: `rt staticlib linked` in {} says\n{}{}",
-            root.display(),
+            "{missing}\n\
+             It could not be built either: {} says\n{}{}\
+             Set COE_DESK_LIB_DIR to the folder of a built {ARCHIVE}, or mend that.",
+            tool.display(),
             String::from_utf8_lossy(&output.stdout),
             String::from_utf8_lossy(&output.stderr)
         )),
-        Ok(_) if !dir.join(ARCHIVE).is_file() => {
-            fail(&format!("{missing}\n`rt staticlib linked` in {} ended well and left none there.", root.display()))
-        }
+        Ok(_) if !dir.join(ARCHIVE).is_file() => fail(&format!("{missing}\n{} ended well and left none there.", tool.display())),
         Ok(_) => {}
     }
 }

@@ -1,4 +1,4 @@
-/* coe_desk.h: the CoE mailbox desk for C and C++, in liblinked.a (`rt staticlib linked`, x86-64).
+/* coe_desk.h: the CoE mailbox desk for C and C++, in liblinked.a (`tools/archive` builds it, for x86-64).
  *
  * Answers are the specification's numbers: 0x00 done; 0x01 request due, 0x02 reply due; 0x03 left; 0x1x refused, and nothing is
  * changed; 0x2x the transfer is over, and the lent buffers are as they were.
