@@ -1,7 +1,0 @@
--- `linked::reading::coe_read_i32` meets its contract: the read's number and value.
-use Rattle.linked.proofs.reading.coe_read_i32.Statement.{statement}
-use Rattle.linked.proofs.reading.coe_read_i32.Tie as tie
-
-pub coe-read-i32-spec : {M : Type 1} → statement M
-coe-read-i32-spec = tie.close (tie.spec (λ c κs. tt) (λ c κs. tt)
-    (λ c. rw (← c.before.read_i32.ensures) c.Signed-of.ensures))

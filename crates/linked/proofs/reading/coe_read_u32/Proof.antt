@@ -1,7 +1,0 @@
--- `linked::reading::coe_read_u32` meets its contract: the read's number and value.
-use Rattle.linked.proofs.reading.coe_read_u32.Statement.{statement}
-use Rattle.linked.proofs.reading.coe_read_u32.Tie as tie
-
-pub coe-read-u32-spec : {M : Type 1} → statement M
-coe-read-u32-spec = tie.close (tie.spec (λ c κs. tt) (λ c κs. tt)
-    (λ c. rw (← c.before.read_u32.ensures) c.Unsigned-of.ensures))
