@@ -1,5 +1,7 @@
 // Replays stored cases: a line of standard input names a function and its arguments, and one line is printed for it. What the
 // lines mean, and where they come from, is in tools/cases/make, which writes both files. A test program: its lines are compared.
+#![tactic(auto)]
+
 mod aborts;
 mod replies;
 mod requests;
@@ -7,11 +9,13 @@ mod values;
 
 ghost use Rattle.std.specs.Prelude.{◌≡◌, ◌≤◌, length};
 
-use bytes::scan::find;
-use libc::STDIN_FILENO;
 use order_text::Decoded;
+use std::io;
+use std::io::Read;
 
 const FILL: u8 = 0xa5;
+
+const PIECE: u64 = 65536;
 
 fn buffer_space() -> [u8; 131072]
     ensures { 131072 ≡ length result }
@@ -48,60 +52,69 @@ pub(crate) fn fill(buffer: &mut [u8]) {
     }
 }
 
-fn dispatch(case: &[u8], buffer: &mut [u8]) {
+fn dispatch(rt: &impl Print, case: &[u8], buffer: &mut [u8]) -> io::Result<()> {
     match wire::byte(case, 0) {
-        0x01..=0x04 => requests::frame(case, buffer),
-        0x05 => aborts::abort_code(case),
-        0x06 => requests::response(case),
-        0x10..=0x13 => replies::reply(case, buffer),
-        0x20 => values::typed(case),
-        0x21 => values::item(case),
-        0x22 => values::quantities(case),
-        0x23 => values::list(case),
-        _ => show::words(b"no such case"),
+        0x01..=0x04 => requests::frame(rt, case, buffer),
+        0x05 => aborts::abort_code(rt, case),
+        0x06 => requests::response(rt, case),
+        0x10..=0x13 => replies::reply(rt, case, buffer),
+        0x20 => values::typed(rt, case),
+        0x21 => values::item(rt, case),
+        0x22 => values::quantities(rt, case),
+        0x23 => values::list(rt, case),
+        _ => show::words(rt, b"no such case"),
     }
 }
 
-fn run_line(line: &[u8], space: &mut [u8], buffer: &mut [u8]) {
+fn run_line(rt: &impl Print, line: &[u8], space: &mut [u8], buffer: &mut [u8]) -> io::Result<()> {
     if line.len() == 0 {
-        return;
+        return Ok(());
     }
     if wire::byte(line, 0) == b'#' {
-        return;
+        return Ok(());
     }
     match order_text::decode(line, space) {
         Decoded::Bytes(n) => {
             if n <= space.len() {
-                dispatch(&space[0..n], buffer);
-                show::words(b"\n");
+                dispatch(rt, &space[0..n], buffer)?;
+                show::words(rt, b"\n")?;
             }
+            Ok(())
         }
-        Decoded::Bad => show::words(b"no such line\n"),
+        Decoded::Bad => show::words(rt, b"no such line\n"),
     }
 }
 
-fn run(text: &[u8], space: &mut [u8], buffer: &mut [u8]) {
+fn run(rt: &impl Print, text: &[u8], space: &mut [u8], buffer: &mut [u8]) -> io::Result<()> {
     let mut at = 0;
     while at < text.len() {
-        let end = find(text, at, text.len(), b'\n');
-        run_line(&text[at..end], space, buffer);
-        at = end + 1;
+        let rest = &text[at..];
+        let n = rest.iter().position(|&c| c == b'\n').unwrap_or(rest.len());
+        run_line(rt, &rest[..n], space, buffer)?;
+        at += n + 1;
     }
+    Ok(())
 }
 
 // The input comes in pieces of whole lines, at most 64 of them.
-fn run_pieces(text: &mut [u8], space: &mut [u8], buffer: &mut [u8]) {
-    let mut pieces: usize = 0;
-    while pieces < 64 {
-        let n = io::read_full(STDIN_FILENO, text);
-        run(&text[..n], space, buffer);
-        pieces += 1;
+fn run_pieces(
+    rt: &impl Print,
+    input: &mut impl Read,
+    text: &mut Vec<u8>,
+    space: &mut [u8],
+    buffer: &mut [u8],
+) -> io::Result<()> {
+    for _ in 0..64 {
+        text.clear();
+        input.by_ref().take(PIECE).read_to_end(text)?;
+        run(rt, text, space, buffer)?;
     }
+    Ok(())
 }
 
-fn main() {
-    let mut text = io::large_buffer();
+fn main(rt: HostRuntime) -> io::Result<()> {
+    let mut text = Vec::new(rt.alloc());
     let mut space = case_space();
     let mut buffer = buffer_space();
-    run_pieces(&mut text, &mut space, &mut buffer);
+    run_pieces(&rt, &mut rt.stdin(), &mut text, &mut space, &mut buffer)
 }

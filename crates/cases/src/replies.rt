@@ -1,6 +1,7 @@
 // The judge: the answer, the data buffer's first bytes and the check of all of it, and the byte behind it.
 use crate::{fill, head};
 use judge::Verdict;
+use std::io;
 
 // What earlier replies stored, of a segment and of a list.
 fn earlier(case: &[u8]) -> u32 {
@@ -20,22 +21,23 @@ fn verdict(case: &[u8], reply: &[u8], n: u32) -> Verdict {
     }
 }
 
-fn printed(case: &[u8], reply: &[u8], n: u32, data: &mut [u8]) {
+fn printed(rt: &impl Print, case: &[u8], reply: &[u8], n: u32, data: &mut [u8]) -> io::Result<()> {
     let verdict = verdict(case, reply, n);
     judge::store(verdict, reply, data, earlier(case) as usize);
-    show::answer(judge::answer_of(verdict));
-    show::looked(data, 64, 8);
+    show::answer(rt, judge::answer_of(verdict))?;
+    show::looked(rt, data, 64, 8)
 }
 
-pub(crate) fn reply(case: &[u8], buffer: &mut [u8]) {
+pub(crate) fn reply(rt: &impl Print, case: &[u8], buffer: &mut [u8]) -> io::Result<()> {
     let head = head(case);
     let n = wire::long_at(case, head - 4);
     let size = n as usize;
     if head <= case.len() {
         if size <= buffer.len() {
             fill(buffer);
-            printed(case, &case[head..], n, &mut buffer[0..size]);
-            show::next(wire::byte(buffer, size) as u64, 2);
+            printed(rt, case, &case[head..], n, &mut buffer[0..size])?;
+            show::next(rt, wire::byte(buffer, size) as u64, 2)?;
         }
     }
+    Ok(())
 }

@@ -2,17 +2,18 @@
 use crate::{fill, head};
 use mailbox::sub_index::SubIndex;
 use services::{Request, Wrote};
+use std::io;
 
-fn written(wrote: Wrote, size: usize, buffer: &[u8]) {
-    show::number(services::number_of(wrote) as u64, 2);
-    show::words(b" ");
-    show::first(buffer, 16);
+fn written(rt: &impl Print, wrote: Wrote, size: usize, buffer: &[u8]) -> io::Result<()> {
+    show::number(rt, services::number_of(wrote) as u64, 2)?;
+    show::words(rt, b" ")?;
+    show::first(rt, buffer, 16)?;
     if size == 0 {
-        show::next(0, 2);
+        show::next(rt, 0, 2)?;
     } else {
-        show::next(wire::byte(buffer, size - 1) as u64, 2);
+        show::next(rt, wire::byte(buffer, size - 1) as u64, 2)?;
     }
-    show::next(wire::byte(buffer, size) as u64, 2);
+    show::next(rt, wire::byte(buffer, size) as u64, 2)
 }
 
 fn wrote(case: &[u8], data: &[u8], frame: &mut [u8]) -> Wrote {
@@ -37,16 +38,17 @@ fn wrote(case: &[u8], data: &[u8], frame: &mut [u8]) -> Wrote {
     }
 }
 
-pub(crate) fn frame(case: &[u8], buffer: &mut [u8]) {
+pub(crate) fn frame(rt: &impl Print, case: &[u8], buffer: &mut [u8]) -> io::Result<()> {
     let head = head(case);
     let size = wire::word_at(case, head - 2) as usize;
     if head <= case.len() {
         if size <= buffer.len() {
             fill(buffer);
             let wrote = wrote(case, &case[head..], &mut buffer[0..size]);
-            written(wrote, size, buffer);
+            written(rt, wrote, size, buffer)?;
         }
     }
+    Ok(())
 }
 
 fn access(case: &[u8]) -> SubIndex {
@@ -74,10 +76,10 @@ fn request(case: &[u8]) -> Request {
     }
 }
 
-pub(crate) fn response(case: &[u8]) {
+pub(crate) fn response(rt: &impl Print, case: &[u8]) -> io::Result<()> {
     if services::validate_response(request(case), wire::word_at(case, 6), wire::byte(case, 8)) {
-        show::words(b"01");
+        show::words(rt, b"01")
     } else {
-        show::words(b"00");
+        show::words(rt, b"00")
     }
 }

@@ -1,11 +1,14 @@
 // The order program's input and output: what is read goes to order_run, and what that prints is written.
-ghost use Rattle.std.specs.Prelude.{◌≡◌, length, take};
-ghost use Rattle.order_run.specs.Feed.{st_of, after, finished, Going};
-ghost use Rattle.order_io.specs.Shown.{Shows};
+#![tactic(auto)]
 
-use libc::{STDIN_FILENO, STDOUT_FILENO};
+ghost use Rattle.std.specs.Prelude.{◌≡◌, length, take, IfOk, OnErr};
+ghost use Rattle.order_run.specs.Feed.{st_of, after, finished, Going};
+ghost use Rattle.order_io.specs.Shown.{Shows, Leaves};
+
 use order_run::turns::OVER;
 use order_run::{ROOM, Run};
+use std::io;
+use std::io::{Read, Write};
 
 // The room for what a piece prints. Its contract gives the length alone: the prover would write the zeros out.
 pub fn space() -> [u8; ROOM]
@@ -14,76 +17,87 @@ pub fn space() -> [u8; ROOM]
     [0u8; ROOM]
 }
 
-fn print(out: &[u8], n: usize) {
+fn print(output: &mut impl Write, out: &[u8], n: usize) -> io::Result<()> {
     if n <= out.len() {
-        io::write_all(STDOUT_FILENO, &out[0..n]);
+        output.write_all(&out[0..n])?;
     }
+    Ok(())
 }
 
-// A piece that was read.
+// A piece that was read. It is fed before anything is written, so that where a write fails the lent buffers are as it left them.
 pub fn fed(
+    output: &mut impl Write,
     run: Run,
     text: &[u8],
     frame: &mut [u8; 1486],
     data: &mut [u8; 4096],
     out: &mut [u8; ROOM],
-) -> Run
+) -> io::Result<Run>
     requires { Going run }
-    ensures { Shows (after (st_of run frame.old «data».old) (take 4096 text.now)) result frame.new «data».new out.old out.new }
+    ensures ok { IfOk result (λ r. Shows (after (st_of run frame.old «data».old) (take 4096 text.now)) r frame.new «data».new out.old out.new) }
+    ensures err { OnErr result (Leaves (after (st_of run frame.old «data».old) (take 4096 text.now)) frame.new «data».new out.old out.new) }
 {
     let fed = order_run::feed(run, text, frame, data, out);
-    print(out, fed.printed);
-    fed.run
+    print(output, out, fed.printed)?;
+    Ok(fed.run)
 }
 
 // The end of the input.
-pub fn ended(run: Run, frame: &mut [u8; 1486], data: &mut [u8; 4096], out: &mut [u8; ROOM]) -> Run
+pub fn ended(
+    output: &mut impl Write,
+    run: Run,
+    frame: &mut [u8; 1486],
+    data: &mut [u8; 4096],
+    out: &mut [u8; ROOM],
+) -> io::Result<Run>
     requires { Going run }
-    ensures { Shows (finished (st_of run frame.old «data».old)) result frame.new «data».new out.old out.new }
+    ensures ok { IfOk result (λ r. Shows (finished (st_of run frame.old «data».old)) r frame.new «data».new out.old out.new) }
+    ensures err { OnErr result (Leaves (finished (st_of run frame.old «data».old)) frame.new «data».new out.old out.new) }
 {
     let fed = order_run::finish(run, frame, data, out);
-    print(out, fed.printed);
-    fed.run
+    print(output, out, fed.printed)?;
+    Ok(fed.run)
 }
 
 // Reads once, and does what came.
 fn turn(
+    input: &mut impl Read,
+    output: &mut impl Write,
     run: Run,
     piece: &mut [u8],
     frame: &mut [u8; 1486],
     data: &mut [u8; 4096],
     out: &mut [u8; ROOM],
-) -> Run
+) -> io::Result<Run>
     requires { Going run }
-    ensures { Going result }
+    ensures { IfOk result Going }
 {
-    let got = libc::read(STDIN_FILENO, piece);
-    if got <= 0 {
-        return ended(run, frame, data, out);
+    let n = input.read(piece)?;
+    if n == 0 {
+        return ended(output, run, frame, data, out);
     }
-    let n = io::count(got, piece);
-    fed(run, &piece[..n], frame, data, out)
+    fed(output, run, &piece[..n], frame, data, out)
 }
 
-// A proved loop has to end, and nothing says that the input does. So the loop counts its turns down, from a number that no run
+// A proved loop has to end, and nothing says that the input does. So the loop counts its turns, up to a number that no run
 // uses up: each turn reads a character at least, and a run takes an entry and at most as many replies as the default budget has,
 // each a line of at most 2,972 characters and a line end.
 pub fn turns(
+    input: &mut impl Read,
+    output: &mut impl Write,
     piece: &mut [u8],
     frame: &mut [u8; 1486],
     data: &mut [u8; 4096],
     out: &mut [u8; ROOM],
-) -> Run
-    ensures { Going result }
+) -> io::Result<Run>
+    ensures { IfOk result Going }
 {
     let mut run = order_run::start();
-    let mut left = u64::MAX;
-    while 0 < left {
-        run = turn(run, piece, frame, data, out);
+    for _ in 0..u64::MAX {
+        run = turn(input, output, run, piece, frame, data, out)?;
         if run.phase == OVER {
             break;
         }
-        left -= 1;
     }
-    run
+    Ok(run)
 }

@@ -1,31 +1,33 @@
 // The calls: a byte that names the call, the seat, and the call's arguments; a lent buffer is a part of the memory, by its place
 // and its length, as far as the memory reaches.
+ghost use Rattle.std.specs.Prelude.{IfOk};
 ghost use Rattle.desk.specs.Record.{Good};
 
 use crate::least;
 use desk::{Called, Desk};
+use std::io;
 use transfer::Order;
 
 // The answer, the counter of the next frame, and how many wait.
-fn told(called: Called) -> Desk
+fn told(rt: &impl Print, called: Called) -> io::Result<Desk>
     requires { Good called.desk }
-    ensures { Good result }
+    ensures { IfOk result Good }
 {
     let desk = called.desk;
-    show::answer(called.answer);
-    show::next(desk.counter as u64, 2);
-    show::next(desk.waiting as u64, 2);
-    desk
+    show::answer(rt, called.answer)?;
+    show::next(rt, desk.counter as u64, 2)?;
+    show::next(rt, desk.waiting as u64, 2)?;
+    Ok(desk)
 }
 
-pub(crate) fn fresh(call: &[u8]) -> Desk
-    ensures { Good result }
+pub(crate) fn fresh(rt: &impl Print, call: &[u8]) -> io::Result<Desk>
+    ensures { IfOk result Good }
 {
     let desk = Desk::fresh_at(wire::byte(call, 1));
-    show::words(b"fresh");
-    show::next(desk.counter as u64, 2);
-    show::next(desk.waiting as u64, 2);
-    desk
+    show::words(rt, b"fresh")?;
+    show::next(rt, desk.counter as u64, 2)?;
+    show::next(rt, desk.waiting as u64, 2)?;
+    Ok(desk)
 }
 
 fn order(call: &[u8]) -> Order {
@@ -39,52 +41,60 @@ fn order(call: &[u8]) -> Order {
     }
 }
 
-pub(crate) fn enter(desk: Desk, call: &[u8]) -> Desk
+pub(crate) fn enter(rt: &impl Print, desk: Desk, call: &[u8]) -> io::Result<Desk>
     requires { Good desk }
-    ensures { Good result }
+    ensures { IfOk result Good }
 {
-    told(desk.enter(wire::byte(call, 1), order(call)))
+    told(rt, desk.enter(wire::byte(call, 1), order(call)))
 }
 
-pub(crate) fn leave(desk: Desk, call: &[u8]) -> Desk
+pub(crate) fn leave(rt: &impl Print, desk: Desk, call: &[u8]) -> io::Result<Desk>
     requires { Good desk }
-    ensures { Good result }
+    ensures { IfOk result Good }
 {
-    told(desk.leave(wire::byte(call, 1)))
+    told(rt, desk.leave(wire::byte(call, 1)))
 }
 
-pub(crate) fn send(desk: Desk, call: &[u8], memory: &mut [u8]) -> Desk
+pub(crate) fn send(rt: &impl Print, desk: Desk, call: &[u8], memory: &mut [u8]) -> io::Result<Desk>
     requires { Good desk }
-    ensures { Good result }
+    ensures { IfOk result Good }
 {
     let from = least(wire::long_at(call, 2) as usize, memory.len());
     let to = from + least(wire::long_at(call, 6) as usize, memory.len() - from);
-    let after = told(desk.send(wire::byte(call, 1), &mut memory[from..to]));
-    show::words(b" ");
-    show::bytes(&memory[from..to]);
-    after
+    let after = told(rt, desk.send(wire::byte(call, 1), &mut memory[from..to]))?;
+    show::words(rt, b" ")?;
+    show::bytes(rt, &memory[from..to])?;
+    Ok(after)
 }
 
-pub(crate) fn receive(desk: Desk, call: &[u8], memory: &mut [u8]) -> Desk
+pub(crate) fn receive(
+    rt: &impl Print,
+    desk: Desk,
+    call: &[u8],
+    memory: &mut [u8],
+) -> io::Result<Desk>
     requires { Good desk }
-    ensures { Good result }
+    ensures { IfOk result Good }
 {
     let from = least(wire::long_at(call, 2) as usize, memory.len());
     let to = from + least(wire::long_at(call, 6) as usize, memory.len() - from);
     let reply = &call[least(10, call.len())..];
-    let after = told(desk.receive(wire::byte(call, 1), reply, &mut memory[from..to]));
-    show::looked(&memory[from..to], 32, 4);
-    after
+    let after = told(
+        rt,
+        desk.receive(wire::byte(call, 1), reply, &mut memory[from..to]),
+    )?;
+    show::looked(rt, &memory[from..to], 32, 4)?;
+    Ok(after)
 }
 
 // No call of the desk: the host writes into its memory.
-pub(crate) fn lay(call: &[u8], memory: &mut [u8]) {
+pub(crate) fn lay(rt: &impl Print, call: &[u8], memory: &mut [u8]) -> io::Result<()> {
     wire::store_chunk(call, 5, call.len(), memory, wire::long_at(call, 1) as usize);
-    show::words(b"laid");
+    show::words(rt, b"laid")
 }
 
 // No call of the desk: the whole memory is looked at.
-pub(crate) fn look(memory: &[u8]) {
-    show::words(b"memory");
-    show::looked(memory, 32, 4);
+pub(crate) fn look(rt: &impl Print, memory: &[u8]) -> io::Result<()> {
+    show::words(rt, b"memory")?;
+    show::looked(rt, memory, 32, 4)
 }

@@ -1,14 +1,18 @@
 // Replays stored call sequences of the desk: a line of standard input is a call, and one line is printed for it. What the lines
 // mean, and where they come from, is in tools/runs/make, which writes both files. A test program: its lines are compared.
+#![tactic(auto)]
+
 mod calls;
 
-ghost use Rattle.std.specs.Prelude.{◌≡◌, ◌≤◌, length};
+ghost use Rattle.std.specs.Prelude.{◌≡◌, ◌≤◌, length, IfOk};
 ghost use Rattle.desk.specs.Record.{Good};
 
-use bytes::scan::find;
 use desk::Desk;
-use libc::STDIN_FILENO;
 use order_text::Decoded;
+use std::io;
+use std::io::Read;
+
+const PIECE: u64 = 65536;
 
 // The host's memory, of which every lent buffer is a part: one of N = 131,071, and frame buffers behind it.
 fn memory_space() -> [u8; 135168]
@@ -29,85 +33,99 @@ pub(crate) fn least(a: usize, b: usize) -> usize
     if a < b { a } else { b }
 }
 
-fn called(desk: Desk, call: &[u8], memory: &mut [u8]) -> Desk
+fn called(rt: &impl Print, desk: Desk, call: &[u8], memory: &mut [u8]) -> io::Result<Desk>
     requires { Good desk }
-    ensures { Good result }
+    ensures { IfOk result Good }
 {
     match wire::byte(call, 0) {
-        0x01 => calls::fresh(call),
-        0x02 => calls::enter(desk, call),
-        0x03 => calls::send(desk, call, memory),
-        0x04 => calls::receive(desk, call, memory),
-        0x05 => calls::leave(desk, call),
+        0x01 => calls::fresh(rt, call),
+        0x02 => calls::enter(rt, desk, call),
+        0x03 => calls::send(rt, desk, call, memory),
+        0x04 => calls::receive(rt, desk, call, memory),
+        0x05 => calls::leave(rt, desk, call),
         0x06 => {
-            calls::lay(call, memory);
-            desk
+            calls::lay(rt, call, memory)?;
+            Ok(desk)
         }
         0x07 => {
-            calls::look(memory);
-            desk
+            calls::look(rt, memory)?;
+            Ok(desk)
         }
-        0x00 => desk,
+        0x00 => Ok(desk),
         _ => {
-            show::words(b"no such call");
-            desk
+            show::words(rt, b"no such call")?;
+            Ok(desk)
         }
     }
 }
 
 // Puts the call of a line at the front of `space`: how many bytes it has. A note and an empty line have none.
-fn call_of(line: &[u8], space: &mut [u8]) -> usize
-    ensures { result ≤ length space.new }
+fn call_of(rt: &impl Print, line: &[u8], space: &mut [u8]) -> io::Result<usize>
+    ensures { IfOk result (λ n. n ≤ length space.new) }
 {
     if wire::byte(line, 0) == b'#' {
-        return 0;
+        return Ok(0);
     }
     match order_text::decode(line, space) {
-        Decoded::Bytes(n) => least(n, space.len()),
+        Decoded::Bytes(n) => Ok(least(n, space.len())),
         Decoded::Bad => {
-            show::words(b"no such line\n");
-            0
+            show::words(rt, b"no such line\n")?;
+            Ok(0)
         }
     }
 }
 
 // The end of a line, where a call of n bytes has printed one.
-fn ended(n: usize) {
+fn ended(rt: &impl Print, n: usize) -> io::Result<()> {
     if 0 < n {
-        show::words(b"\n");
+        show::words(rt, b"\n")?;
     }
+    Ok(())
 }
 
-fn run(first: Desk, text: &[u8], space: &mut [u8], memory: &mut [u8]) -> Desk
+fn run(
+    rt: &impl Print,
+    first: Desk,
+    text: &[u8],
+    space: &mut [u8],
+    memory: &mut [u8],
+) -> io::Result<Desk>
     requires { Good first }
-    ensures { Good result }
+    ensures { IfOk result Good }
 {
     let mut desk = first;
     let mut at = 0;
     while at < text.len() {
-        let end = find(text, at, text.len(), b'\n');
-        let n = call_of(&text[at..end], space);
-        desk = called(desk, &space[..n], memory);
-        ended(n);
-        at = end + 1;
+        let rest = &text[at..];
+        let end = rest.iter().position(|&c| c == b'\n').unwrap_or(rest.len());
+        let n = call_of(rt, &rest[..end], space)?;
+        desk = called(rt, desk, &space[..n], memory)?;
+        ended(rt, n)?;
+        at += end + 1;
     }
-    desk
+    Ok(desk)
 }
 
 // The input comes in pieces of whole lines, at most 64 of them.
-fn run_pieces(text: &mut [u8], space: &mut [u8], memory: &mut [u8]) {
+fn run_pieces(
+    rt: &impl Print,
+    input: &mut impl Read,
+    text: &mut Vec<u8>,
+    space: &mut [u8],
+    memory: &mut [u8],
+) -> io::Result<()> {
     let mut desk = Desk::fresh();
-    let mut pieces: usize = 0;
-    while pieces < 64 {
-        let n = io::read_full(STDIN_FILENO, text);
-        desk = run(desk, &text[..n], space, memory);
-        pieces += 1;
+    for _ in 0..64 {
+        text.clear();
+        input.by_ref().take(PIECE).read_to_end(text)?;
+        desk = run(rt, desk, text, space, memory)?;
     }
+    Ok(())
 }
 
-fn main() {
-    let mut text = io::large_buffer();
+fn main(rt: HostRuntime) -> io::Result<()> {
+    let mut text = Vec::new(rt.alloc());
     let mut space = call_space();
     let mut memory = memory_space();
-    run_pieces(&mut text, &mut space, &mut memory);
+    run_pieces(&rt, &mut rt.stdin(), &mut text, &mut space, &mut memory)
 }

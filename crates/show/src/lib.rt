@@ -1,43 +1,46 @@
 // What the programs that replay stored lines print: numbers, an answer, bytes, and a check of bytes that are too many to print.
+#![tactic(auto)]
+
 ghost use Rattle.std.specs.Prelude.{◌≡◌};
 ghost use Rattle.show.specs.Check.{check_of};
 
 use judge::Answer;
-use libc::STDOUT_FILENO;
+use std::io;
 
-pub fn words(text: &[u8]) {
-    io::write_all(STDOUT_FILENO, text);
+pub fn words(rt: &impl Print, text: &[u8]) -> io::Result<()> {
+    rt.write_all(text)
 }
 
-pub fn number(n: u64, width: usize) {
-    io::print_hex(STDOUT_FILENO, n, width);
+pub fn number(rt: &impl Print, n: u64, width: usize) -> io::Result<()> {
+    print!(rt; "{n:0width$x}")
 }
 
-pub fn next(n: u64, width: usize) {
-    words(b" ");
-    number(n, width);
+pub fn next(rt: &impl Print, n: u64, width: usize) -> io::Result<()> {
+    words(rt, b" ")?;
+    number(rt, n, width)
 }
 
-pub fn answer(answer: Answer) {
-    number(answer.number as u64, 2);
-    next(answer.sub as u64, 2);
-    next(answer.index as u64, 4);
-    next(answer.code as u64, 8);
-    next(answer.length as u64, 8);
-    next(answer.data, 10);
+pub fn answer(rt: &impl Print, answer: Answer) -> io::Result<()> {
+    number(rt, answer.number as u64, 2)?;
+    next(rt, answer.sub as u64, 2)?;
+    next(rt, answer.index as u64, 4)?;
+    next(rt, answer.code as u64, 8)?;
+    next(rt, answer.length as u64, 8)?;
+    next(rt, answer.data, 10)
 }
 
-fn spelled(s: &[u8], text: &mut [u8]) {
+fn spelled(rt: &impl Print, s: &[u8], text: &mut [u8]) -> io::Result<()> {
     let n = order_text::encode(s, text);
     if n <= text.len() {
-        words(&text[0..n]);
+        words(rt, &text[0..n])?;
     }
+    Ok(())
 }
 
 // As many of the bytes as have room in a buffer.
-pub fn bytes(s: &[u8]) {
-    let mut text = io::buffer();
-    spelled(s, &mut text);
+pub fn bytes(rt: &impl Print, s: &[u8]) -> io::Result<()> {
+    let mut text = [0u8; 4096];
+    spelled(rt, s, &mut text)
 }
 
 // A number that a change of any byte, or of their order, changes.
@@ -53,17 +56,17 @@ pub fn check(s: &[u8]) -> u32
     sum
 }
 
-pub fn first(s: &[u8], most: usize) {
+pub fn first(rt: &impl Print, s: &[u8], most: usize) -> io::Result<()> {
     if most < s.len() {
-        bytes(&s[0..most]);
+        bytes(rt, &s[0..most])
     } else {
-        bytes(s);
+        bytes(rt, s)
     }
 }
 
 // The first `most` bytes, and the check of all.
-pub fn looked(s: &[u8], most: usize, width: usize) {
-    words(b" ");
-    first(s, most);
-    next(check(s) as u64, width);
+pub fn looked(rt: &impl Print, s: &[u8], most: usize, width: usize) -> io::Result<()> {
+    words(rt, b" ")?;
+    first(rt, s, most)?;
+    next(rt, check(s) as u64, width)
 }
