@@ -18,28 +18,19 @@ use Rattle.mailbox.specs.Numbers as names
 use Rattle.mailbox.specs.Headers.{read_mailbox_header, mailbox_header_of, read_coe_header, coe_header_of, read_sdo_header, sdo_header_of, read_segmented, segmented_of, read_sdo_info, sdo_info_of}
 use Rattle.mailbox.specs.declared.MailboxHeader.{MailboxHeader}
 use Rattle.mailbox.specs.declared.outcome.MailboxHeaderRead.{MailboxHeaderRead}
-use Rattle.mailbox.specs.declared.outcome.MailboxHeaderRead.TheVariants as MailboxHeaderRead
 use Rattle.mailbox.specs.declared.outcome.SdoHeaderRead.{SdoHeaderRead}
-use Rattle.mailbox.specs.declared.outcome.SdoHeaderRead.TheVariants as SdoHeaderRead
 use Rattle.mailbox.specs.declared.outcome.SdoHeaderSegmentedRead.{SdoHeaderSegmentedRead}
-use Rattle.mailbox.specs.declared.outcome.SdoHeaderSegmentedRead.TheVariants as SdoHeaderSegmentedRead
 use Rattle.mailbox.specs.declared.outcome.SdoInfoHeaderRead.{SdoInfoHeaderRead}
-use Rattle.mailbox.specs.declared.outcome.SdoInfoHeaderRead.TheVariants as SdoInfoHeaderRead
 use Rattle.mailbox.specs.declared.numbers.MailboxType.{MailboxType}
 use Rattle.mailbox.specs.declared.numbers.ListedType.{ListedType}
-use Rattle.mailbox.specs.declared.numbers.ListedType.TheVariants as ListedType
 use Rattle.mailbox.specs.declared.coe.CoeHeader.{CoeHeader}
 use Rattle.mailbox.specs.declared.outcome.CoeHeaderRead.{CoeHeaderRead}
-use Rattle.mailbox.specs.declared.outcome.CoeHeaderRead.TheVariants as CoeHeaderRead
 use Rattle.mailbox.specs.declared.numbers.CoeService.{CoeService}
 use Rattle.mailbox.specs.declared.numbers.ListedService.{ListedService}
-use Rattle.mailbox.specs.declared.numbers.ListedService.TheVariants as ListedService
 use Rattle.mailbox.specs.declared.numbers.CoeCommand.{CoeCommand}
 use Rattle.mailbox.specs.declared.numbers.ListedCommand.{ListedCommand}
-use Rattle.mailbox.specs.declared.numbers.ListedCommand.TheVariants as ListedCommand
 use Rattle.mailbox.specs.declared.numbers.SdoInfoOpCode.{SdoInfoOpCode}
 use Rattle.mailbox.specs.declared.numbers.ListedOpCode.{ListedOpCode}
-use Rattle.mailbox.specs.declared.numbers.ListedOpCode.TheVariants as ListedOpCode
 use Rattle.judge.specs.Answers.{answer_of, one_of}
 use Rattle.judge.specs.Headers.{on_mailbox, on_coe, on_sdo, on_segmented, on_info, on_front, read_front, read_headers, read_segment_headers, read_information_headers}
 use Rattle.judge.specs.Alarm.{message_in, emergency_in}
@@ -48,11 +39,8 @@ use Rattle.judge.specs.declared.Verdict.TheVariants.{Refused, Emergency}
 use Rattle.judge.specs.declared.headers.Front.{Front}
 use Rattle.judge.specs.declared.headers.FrontRead.TheVariants as FrontRead
 use Rattle.judge.specs.declared.headers.HeadersRead.{HeadersRead}
-use Rattle.judge.specs.declared.headers.HeadersRead.TheVariants as HeadersRead
 use Rattle.judge.specs.declared.headers.SegmentHeadersRead.{SegmentHeadersRead}
-use Rattle.judge.specs.declared.headers.SegmentHeadersRead.TheVariants as SegmentHeadersRead
 use Rattle.judge.specs.declared.headers.InformationHeadersRead.{InformationHeadersRead}
-use Rattle.judge.specs.declared.headers.InformationHeadersRead.TheVariants as InformationHeadersRead
 use Rattle.promises.specs.Finding.{Finding, refuse, emergency}
 use Rattle.promises.specs.Names.{numbers, types, services, specifiers, operations}
 use Rattle.promises.specs.Rules.{under, at, unlisted}

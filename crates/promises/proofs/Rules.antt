@@ -10,7 +10,7 @@ use lib.Dec.{ltb, leb, eqb}
 use lib.ListN.{length}
 use Rattle.wire.specs.Words.{pick, both, first_of}
 use Rattle.wire.proofs.Cases.{by}
-use Rattle.mailbox.specs.Fields.{the, length_field, mailbox_type, service, expedited, size, specifier, index, sub_index, last_segment, unused_count, operation, incomplete}
+use Rattle.mailbox.specs.Fields.{the, length_field, mailbox_type, expedited, size, specifier, index, sub_index, last_segment, unused_count, operation, incomplete}
 use Rattle.mailbox.specs.Numbers.{command_number}
 use Rattle.mailbox.specs.Headers.{sdo_header_of, segmented_of, sdo_info_of}
 use Rattle.mailbox.specs.declared.numbers.MailboxType.{MailboxType}
