@@ -27,13 +27,10 @@ use Rattle.judge.specs.declared.Verdict.TheVariants.{Refused, Emergency, Aborted
 use Rattle.judge.specs.declared.chunk.Chunk.TheVariants.{There, Missing}
 use Rattle.judge.specs.declared.headers.Headers.{Headers}
 use Rattle.judge.specs.declared.headers.HeadersRead.{HeadersRead}
-use Rattle.judge.specs.declared.headers.HeadersRead.TheVariants as HeadersRead
 use Rattle.judge.specs.declared.headers.SegmentHeaders.{SegmentHeaders}
 use Rattle.judge.specs.declared.headers.SegmentHeadersRead.{SegmentHeadersRead}
-use Rattle.judge.specs.declared.headers.SegmentHeadersRead.TheVariants as SegmentHeadersRead
 use Rattle.judge.specs.declared.headers.InformationHeaders.{InformationHeaders}
 use Rattle.judge.specs.declared.headers.InformationHeadersRead.{InformationHeadersRead}
-use Rattle.judge.specs.declared.headers.InformationHeadersRead.TheVariants as InformationHeadersRead
 
 -- bytes that are not lacking are there
 there : (size from len : ℕ) → lacking size from len ≡ false → len ≤ size - from

@@ -9,23 +9,18 @@ use Rattle.mailbox.specs.Numbers.{command_number}
 use Rattle.mailbox.specs.declared.numbers.CoeCommand.{CoeCommand}
 use Rattle.mailbox.specs.declared.sdo.SdoHeader.{SdoHeader}
 use Rattle.mailbox.specs.declared.outcome.SdoHeaderRead.{SdoHeaderRead}
-use Rattle.mailbox.specs.declared.outcome.SdoHeaderRead.TheVariants as SdoHeaderRead
 use Rattle.mailbox.specs.declared.segment.SdoHeaderSegmented.{SdoHeaderSegmented}
 use Rattle.mailbox.specs.declared.outcome.SdoHeaderSegmentedRead.{SdoHeaderSegmentedRead}
-use Rattle.mailbox.specs.declared.outcome.SdoHeaderSegmentedRead.TheVariants as SdoHeaderSegmentedRead
 use Rattle.judge.specs.Alarm.{emergency_in, abort_in}
 use Rattle.judge.specs.Reply.{on_headers, in_order}
 use Rattle.judge.specs.Headers.{on_front, on_sdo, on_segmented}
 use Rattle.judge.specs.Segment.{on_segment_headers}
 use Rattle.judge.specs.declared.headers.Front.{Front}
 use Rattle.judge.specs.declared.headers.FrontRead.{FrontRead}
-use Rattle.judge.specs.declared.headers.FrontRead.TheVariants as FrontRead
 use Rattle.judge.specs.declared.headers.SegmentHeaders.{SegmentHeaders}
 use Rattle.judge.specs.declared.headers.SegmentHeadersRead.{SegmentHeadersRead}
-use Rattle.judge.specs.declared.headers.SegmentHeadersRead.TheVariants as SegmentHeadersRead
 use Rattle.judge.specs.declared.headers.Headers.{Headers}
 use Rattle.judge.specs.declared.headers.HeadersRead.{HeadersRead}
-use Rattle.judge.specs.declared.headers.HeadersRead.TheVariants as HeadersRead
 use Rattle.judge.specs.declared.Verdict.{Verdict}
 use Rattle.judge.specs.declared.Verdict.TheVariants.{Refused}
 

@@ -5,30 +5,21 @@ use Rattle.mailbox.specs.Numbers.{type_number, service_number}
 use Rattle.mailbox.specs.Headers.{read_mailbox_header, read_coe_header, read_sdo_header, read_segmented, read_sdo_info}
 use Rattle.mailbox.specs.declared.MailboxHeader.{MailboxHeader}
 use Rattle.mailbox.specs.declared.outcome.MailboxHeaderRead.{MailboxHeaderRead}
-use Rattle.mailbox.specs.declared.outcome.MailboxHeaderRead.TheVariants as MailboxHeaderRead
 use Rattle.mailbox.specs.declared.coe.CoeHeader.{CoeHeader}
 use Rattle.mailbox.specs.declared.outcome.CoeHeaderRead.{CoeHeaderRead}
-use Rattle.mailbox.specs.declared.outcome.CoeHeaderRead.TheVariants as CoeHeaderRead
 use Rattle.mailbox.specs.declared.sdo.SdoHeader.{SdoHeader}
 use Rattle.mailbox.specs.declared.outcome.SdoHeaderRead.{SdoHeaderRead}
-use Rattle.mailbox.specs.declared.outcome.SdoHeaderRead.TheVariants as SdoHeaderRead
 use Rattle.mailbox.specs.declared.segment.SdoHeaderSegmented.{SdoHeaderSegmented}
 use Rattle.mailbox.specs.declared.outcome.SdoHeaderSegmentedRead.{SdoHeaderSegmentedRead}
-use Rattle.mailbox.specs.declared.outcome.SdoHeaderSegmentedRead.TheVariants as SdoHeaderSegmentedRead
 use Rattle.mailbox.specs.declared.information.SdoInfoHeader.{SdoInfoHeader}
 use Rattle.mailbox.specs.declared.outcome.SdoInfoHeaderRead.{SdoInfoHeaderRead}
-use Rattle.mailbox.specs.declared.outcome.SdoInfoHeaderRead.TheVariants as SdoInfoHeaderRead
 use Rattle.judge.specs.Places.{segment_least}
 use Rattle.judge.specs.declared.headers.Front.{Front}
 use Rattle.judge.specs.declared.headers.FrontRead.{FrontRead}
-use Rattle.judge.specs.declared.headers.FrontRead.TheVariants as FrontRead
 use Rattle.judge.specs.declared.headers.Headers.{Headers}
 use Rattle.judge.specs.declared.headers.HeadersRead.{HeadersRead}
-use Rattle.judge.specs.declared.headers.HeadersRead.TheVariants as HeadersRead
 use Rattle.judge.specs.declared.headers.SegmentHeadersRead.{SegmentHeadersRead}
-use Rattle.judge.specs.declared.headers.SegmentHeadersRead.TheVariants as SegmentHeadersRead
 use Rattle.judge.specs.declared.headers.InformationHeadersRead.{InformationHeadersRead}
-use Rattle.judge.specs.declared.headers.InformationHeadersRead.TheVariants as InformationHeadersRead
 
 -- what is done with a header that was read, and what where it was not
 abbrev pub on_mailbox : {A : Type 0} → MailboxHeaderRead → A → (MailboxHeader → A) → A

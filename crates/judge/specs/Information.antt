@@ -9,7 +9,6 @@ use Rattle.judge.specs.declared.Verdict.{Verdict}
 use Rattle.judge.specs.declared.Verdict.TheVariants.{Refused, Fragment, ReplyDue}
 use Rattle.judge.specs.declared.headers.InformationHeaders.{InformationHeaders}
 use Rattle.judge.specs.declared.headers.InformationHeadersRead.{InformationHeadersRead}
-use Rattle.judge.specs.declared.headers.InformationHeadersRead.TheVariants as InformationHeadersRead
 
 -- "from byte 14 in the first operation 2 reply, from 12 in later ones"
 unfoldable pub fragment_at : Bool → ℕ

@@ -9,7 +9,6 @@ use Rattle.judge.specs.declared.Verdict.{Verdict}
 use Rattle.judge.specs.declared.Verdict.TheVariants.{Refused}
 use Rattle.judge.specs.declared.headers.Headers.{Headers}
 use Rattle.judge.specs.declared.headers.HeadersRead.{HeadersRead}
-use Rattle.judge.specs.declared.headers.HeadersRead.TheVariants as HeadersRead
 
 -- "Under 12 bytes, or an unlisted type, service or specifier: 20."; an emergency has its own rule
 abbrev pub on_headers : List ℕ → HeadersRead → (Headers → Verdict) → Verdict

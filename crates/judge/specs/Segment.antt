@@ -10,7 +10,6 @@ use Rattle.judge.specs.declared.Verdict.{Verdict}
 use Rattle.judge.specs.declared.Verdict.TheVariants.{Refused, Segment}
 use Rattle.judge.specs.declared.headers.SegmentHeaders.{SegmentHeaders}
 use Rattle.judge.specs.declared.headers.SegmentHeadersRead.{SegmentHeadersRead}
-use Rattle.judge.specs.declared.headers.SegmentHeadersRead.TheVariants as SegmentHeadersRead
 
 -- "Chunk is length minus 3; if that is exactly 7, take off the unused count."
 unfoldable pub chunk_length : ℕ → ℕ → ℕ

@@ -1,5 +1,5 @@
 -- How a transfer came to where it stands: its sends and its judged replies, one after another. Assumes nothing.
-use Rattle.std.specs.Prelude.{◌≡◌, false, List, [], ◌++◌, ℕ, suc, ◌+◌, ◌%◌, eqb, length}
+use Rattle.std.specs.Prelude.{◌≡◌, false, List, [], ◌++◌, ℕ, suc, ◌%◌, eqb, length}
 use Rattle.std.proofs.Math.Option.{some}
 use Rattle.services.specs.declared.Request.TheVariants as request
 use Rattle.judge.specs.Answers.{answer_of}

@@ -1,6 +1,5 @@
 -- `wire::copy` meets its contract. The invariant: d is what it was with the first i bytes pasted in.
 -- Assumes nothing.
-use Prim.Native.Nat.{◌-◌}
 use native.Mathlib.Omega.{arith}
 use lib.ListN.{length-set}
 use Rattle.wire.proofs.Store.{copy_turn}

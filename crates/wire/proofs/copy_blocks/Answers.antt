@@ -1,5 +1,5 @@
 -- `wire::copy_blocks` meets its contract. The invariant: d is what it was with the first i bytes pasted in.
-use Prim.Native.Nat.{◌-◌, ◌≤◌}
+use Prim.Native.Nat.{◌≤◌}
 use mathlib.Core.Path.{◌∙◌}
 use native.Mathlib.Omega.{arith}
 use lib.ListN.{length, drop, length-drop}

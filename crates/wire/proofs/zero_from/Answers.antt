@@ -1,5 +1,4 @@
 -- `wire::zero_from` meets its contract. The invariant: the bytes from `from` up to i are zero.
-use Prim.Native.Nat.{◌-◌}
 use native.Mathlib.Omega.{arith}
 use lib.ListN.{length-set}
 use Rattle.wire.proofs.Front.{zero_turn}

@@ -1,6 +1,6 @@
 -- `abort_code::first_not_below` meets its contract. The loop's invariant: what stands before `low` is below n, and nothing from `high` on is.
 -- The list ascends, so that the row in the middle settles all on one side of it.
-use Prim.Native.Nat.{ℕ, ◌+◌, ◌-◌, ◌/◌}
+use Prim.Native.Nat.{◌+◌, ◌-◌, ◌/◌}
 use borrow.Author.Rules.{rules}
 use Rattle.mailbox.specs.AbortCodes.{abort_numbers}
 use Rattle.mailbox.proofs.Ascending.{below_up_to, not_below_from}

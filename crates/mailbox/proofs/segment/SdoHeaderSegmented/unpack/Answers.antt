@@ -1,5 +1,4 @@
 -- `SdoHeaderSegmented::unpack` meets its contract: what it reads byte by byte are the fields of its table.
-use mathlib.Core.Path.{◌≡◌}
 use borrow.Author.Tests.{lt-ltb}
 use Rattle.wire.specs.Bytes.{Bytes}
 use Rattle.mailbox.specs.Numbers.{command_of}
