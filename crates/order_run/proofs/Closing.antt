@@ -13,7 +13,7 @@ use Rattle.judge.proofs.Laid.{laid_join, laid_nil}
 use Rattle.desk.specs.declared.Desk.{Desk}
 use Rattle.wire.proofs.Cases.{by}
 use Rattle.order_run.specs.Turns.{Said, after_all, Turned}
-use Rattle.order_run.specs.Feed.{nothing, St, st, Did, behind, read, after, begun, line_ended, closed, finished, Going, st_of, Feeds}
+use Rattle.order_run.specs.Feed.{nothing, St, Did, behind, read, after, begun, line_ended, closed, finished, Going, st_of, Feeds}
 use Rattle.order_run.specs.declared.Run.{Run}
 use Rattle.order_run.specs.declared.digits.Part.{Part}
 use Rattle.order_run.specs.declared.turns.Turn.{Turn}

@@ -19,7 +19,7 @@ use Rattle.order_text.proofs.Lines.{head_digit, tail_good}
 use Rattle.order_text.proofs.Refused.{bad_character, odd_line, overlong_line, good_line, has_bad_lem}
 use Rattle.order_run.specs.Turns.{Said, failed, after_line, kept_line}
 use Rattle.order_run.specs.Printed.{lines_in, said, printed}
-use Rattle.order_run.specs.Feed.{part, nothing, St, st, Did, behind, end_said, end_kept, ended, stopped, fails, put_frame, put, after, begun, line_ended, closed, finished, in_pieces, joined, st_of, AsPrinted}
+use Rattle.order_run.specs.Feed.{nothing, St, st, Did, behind, end_said, end_kept, ended, stopped, fails, put_frame, put, after, begun, line_ended, closed, finished, in_pieces, joined, st_of, AsPrinted}
 use Rattle.order_run.specs.declared.digits.Part.{Part}
 use Rattle.order_run.specs.declared.Run.{Run}
 use Rattle.order_run.proofs.Parts.{fails_room, fails_not, put_first, put_second}

@@ -1,5 +1,7 @@
 // The order program on texts. Pieces of the input go in as they were read, and what is to be printed comes out: the definition is
 // specs/Printed, and that no cut of the input plays a part is proofs/Whole.
+#![tactic(auto)]
+
 pub mod digits;
 pub mod entry;
 pub mod turns;

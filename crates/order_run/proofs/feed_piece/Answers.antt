@@ -1,0 +1,79 @@
+-- `feed_piece` meets its contract. Both loops have one invariant each: what is left to do from here gives what the whole gives.
+use mathlib.Core.Path.{◌≡◌, sym, ap, ◌∙◌}
+use mathlib.Core.List.{List}
+use Prim.Native.Nat.{ℕ, ◌+◌, ◌*◌, ◌<◌, ◌≤◌}
+use native.Mathlib.Omega.{arith}
+use lib.ListN.{length, get_or, drop}
+use Rattle.desk.specs.declared.Desk.{Desk}
+use Rattle.order_run.specs.declared.digits.Part.{Part}
+use Rattle.order_run.specs.Turns.{Turned}
+use Rattle.order_run.specs.Feed.{St, st, further, put_part, put_frame, end_said, Whole}
+use Rattle.order_run.proofs.Spoken.{turned_as, turned_at, quiet_turned}
+use Rattle.order_run.proofs.Characters.{put_digit, begun_put}
+use Rattle.order_run.proofs.Feeding.{Digits, Lines, digits_start, through, digits_put, digits_whole, line_done, rested_over, rested_end, rested_bad}
+use Rattle.order_run.proofs.feed_piece.Goals as goal
+use Rattle.order_run.proofs.feed_piece.Goals.{else-loop-i-test, then-loop-i-test+then-c-eq10, then-is_quiet, else-is_quiet}
+
+-- the lines so far, the whole bytes that a line is gone on with, and the digits behind them
+gone_on : {t : List ℕ} {s₁ : St} {o₁ : List ℕ} {d : Desk} {ph : ℕ} {p : Part} {f k o : List ℕ} {n i : ℕ} {p₂ : Part} {f₂ : List ℕ} {m : ℕ}
+    {d' : Desk} {ph' : ℕ} {p' : Part} {f' o' : List ℕ} {n' i' : ℕ}
+    → Lines t s₁ o₁ (st d ph p f k) o n i → length t ≤ 4096 → (ph ≡ 2 → ⊥)
+    → Whole (drop i t) p.count f m f₂ × (0 < m → p.half ≡ 16) → length f₂ ≡ length f → p₂ ≡ further p m
+    → Digits t k d ph p₂ f₂ o n (i + 2 * m) d' ph' p' f' o' n' i' → Lines t s₁ o₁ (st d' ph' p' f' k) o' n' i'
+gone_on L b g w l e D = through (through L (digits_whole (digits_start L b g) w.0 w.1 (l ∙ L.long) e)) D
+
+pub put-part-requires-clause-digit_bound : goal.put-part-requires-clause-digit_bound
+put-part-requires-clause-digit_bound c =
+    omega (arith, c.digit.ensures, put_digit _ _ (sym c.is_bad.ensures ∙ c.if-is_bad.false))
+
+pub whole_bytes-more-requires-clause-begun : goal.whole_bytes-more-requires-clause-begun
+whole_bytes-more-requires-clause-begun c =
+    let l = c.loop-i in
+    rw (c.put-part.ensures.0 ∙ ap (put_part l.part) c.digit.ensures) (begun_put l.part _ l.frame l.invariant.begun (sym c.is_bad.ensures ∙ c.if-is_bad.false))
+
+pub loop-i-preserved : goal.loop-i-preserved
+loop-i-preserved c =
+    let l = c.loop-i in
+    let p = c.put-part in
+    let w = c.whole_bytes-more in
+    let g = c.digit.ensures in
+    digits_whole
+    (digits_put l.invariant c.loop-i-test.true c.if-c-eq10.false (sym c.is_bad.ensures ∙ c.if-is_bad.false)
+    (p.ensures.0 ∙ ap (put_part l.part) g) (p.ensures.1 ∙ ap (λ (x : ℕ). put_frame l.part x l.frame) g) (p.auto.frame ∙ l.invariant.long))
+    w.ensures.0 w.ensures.1 (w.auto.frame ∙ p.auto.frame ∙ l.invariant.long) c.further-part-in-loop-i.ensures
+
+pub lines-preserved-then-i-text : goal.lines-preserved-then-i-text
+lines-preserved-then-i-text c =
+    let l = c.loop-i in
+    let e = c.line_end-change in
+    let w = c.whole_bytes-whole in
+    let newline : get_or c.args.text.now l.i 0 ≡ 10 =
+    elim c.loop-i-test.branch [ else-loop-i-test w ↦ absurd (omega (arith, w.loop-i-test.false, c.if-i-text.true)) | then-loop-i-test+then-c-eq10 w ↦ w.if-c-eq10.true ] in
+    let spoken : Turned (end_said (st l.desk l.phase l.part l.frame c.lines.«data»)) l.printed
+    (record { desk = c.if-is_quiet.desk; phase = c.if-is_quiet.phase; end = c.if-is_quiet.printed }) l.out c.if-is_quiet.out =
+    elim c.if-is_quiet.branch [
+      | then-is_quiet w ↦ turned_at w.desk-is w.phase-is w.printed-is w.out-is (quiet_turned l.out l.printed e.ensures.0 (sym c.is_quiet.ensures ∙ w.if-is_quiet.true) (omega (arith, l.invariant.room)))
+      | else-is_quiet w ↦ turned_at w.desk-is w.phase-is w.printed-is w.out-is (turned_as e.ensures.0.told w.print_answer-turn.ensures)
+    ] in
+    line_done (gone_on c.lines.invariant c.requires.text_len_bound c.if-phase-eq-OVER.false w.ensures w.auto.frame c.further-part.ensures l.invariant)
+    c.if-i-text.true newline l.invariant.going spoken e.ensures.1 e.auto.«data» c.if-is_quiet.auto.out c.nothing-part-then-i-text.ensures
+
+pub lines-preserved : goal.lines-preserved
+lines-preserved c =
+    let w = c.whole_bytes-whole in
+    gone_on c.lines.invariant c.requires.text_len_bound c.if-phase-eq-OVER.false w.ensures w.auto.frame c.further-part.ensures c.loop-i.invariant
+
+pub returns-after-lines : goal.returns-after-lines
+returns-after-lines c =
+    rested_end c.lines.invariant c.lines-test.false
+
+pub returns-then-phase-eq-OVER : goal.returns-then-phase-eq-OVER
+returns-then-phase-eq-OVER c =
+    rested_over c.lines.invariant c.if-phase-eq-OVER.true
+
+pub returns-then-is_bad : goal.returns-then-is_bad
+returns-then-is_bad c =
+    let D = c.loop-i.invariant in
+    let w = c.whole_bytes-whole in
+    rested_bad (gone_on c.lines.invariant c.requires.text_len_bound c.if-phase-eq-OVER.false w.ensures w.auto.frame c.further-part.ensures D)
+    c.loop-i-test.true c.if-c-eq10.false D.going (sym c.is_bad.ensures ∙ c.if-is_bad.true) c.last_number-bad.ensures c.nothing-part.ensures
