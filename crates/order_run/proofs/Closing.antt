@@ -12,7 +12,7 @@ use Rattle.wire.specs.Store.{laid}
 use Rattle.judge.proofs.Laid.{laid_join, laid_nil}
 use Rattle.desk.specs.declared.Desk.{Desk}
 use Rattle.wire.proofs.Cases.{by}
-use Rattle.order_run.specs.Turns.{Said, after_all, Turned}
+use Rattle.order_run.specs.Turns.{Said, after_all, turn_of, Turned}
 use Rattle.order_run.specs.Feed.{nothing, St, Did, behind, read, after, begun, line_ended, closed, finished, Going, st_of, Feeds}
 use Rattle.order_run.specs.declared.Run.{Run}
 use Rattle.order_run.specs.declared.digits.Part.{Part}
@@ -59,6 +59,14 @@ all_over : (p : ℕ) (d : Desk) → (after_all p d).phase ≡ 2
 unfolding after_all
 all_over p d = by (eqb p 0) (λ e. rw e) (λ e. rw e)
 
+abbrev fed : Desk → ℕ → Part → ℕ → Fed
+fed d ph p n = record { run = record { desk = d; phase = ph; part = p }; printed = n }
+
+-- the run after a last line, and how much is printed then
+told_last : (x : Said) (n : ℕ) {t : Turn} {p : Part} {m : ℕ} → t ≡ turn_of n x → p ≡ nothing → n + length x.text ≡ m
+    → fed t.desk t.phase p t.end ≡ fed x.desk x.phase nothing m
+told_last x n e z h = λ i. fed (e i).desk (e i).phase (z i) ((ap (λ (y : Turn). y.end) e ∙ h) i)
+
 module _ (s : St) {r : Fed} {f k o o₁ : List ℕ} (F : Feeds (line_ended s) 4096 r f k o o₁) where
   phase_is : r.run.phase ≡ (line_ended s).st.phase
   phase_is = ap (λ (x : Fed). x.run.phase) F.told
@@ -92,10 +100,7 @@ module _ (s : St) {r : Fed} {f k o o₁ : List ℕ} (F : Feeds (line_ended s) 40
       rw q
       (record {
         told =
-            ap (λ (y : Turn). record { run = record { desk = y.desk; phase = y.phase; part = p }; printed = t.end }) T.told
-            ∙ ap (λ (y : Part). record { run = record { desk = a.desk; phase = a.phase; part = y }; printed = t.end }) z
-            ∙ ap (λ (y : ℕ). record { run = record { desk = a.desk; phase = a.phase; part = nothing }; printed = y })
-            (ap (λ (y : Turn). y.end) T.told ∙ omega (arith, n, length-append x.text a.text));
+            told_last a r.printed T.told z (omega (arith, n, length-append x.text a.text));
         framed = F.framed;
         stored = F.stored;
         printed =
