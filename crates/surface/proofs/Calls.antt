@@ -11,10 +11,10 @@ use Rattle.wire.specs.Words.{first_of}
 use Rattle.wire.specs.Bytes.{long_at}
 use Rattle.wire.proofs.Cases.{by}
 use Rattle.judge.specs.declared.Answer.{Answer}
-use Rattle.line.specs.Desk.{first_counter, enter, send, receive, leave}
+use Rattle.line.specs.Desk.{enter, send, receive, leave}
 use Rattle.transfer.specs.declared.Order.{Order}
 use Rattle.desk.specs.Record.{Queue, Good, view_of}
-use Rattle.desk.specs.Calls.{Fresh, Gives, GivesLent}
+use Rattle.desk.specs.Calls.{Gives, GivesLent}
 use Rattle.desk.specs.Stand.{lent_by}
 use Rattle.desk.specs.declared.Desk.{Desk}
 use Rattle.lent.specs.Order.{len_of, order_from}
@@ -23,11 +23,8 @@ use Rattle.promises.specs.Standing.{Called}
 use Rattle.promises.specs.Table.{conditions, buffer_by}
 use Rattle.promises.proofs.Table.{table_at_records}
 use Rattle.promises.proofs.Demand3.{by_the_functions}
-use Rattle.surface.specs.Calls.{Opens, Does, EntersWithin, Sends, Receives, Leaves}
+use Rattle.surface.specs.Calls.{Does, EntersWithin, Sends, Receives, Leaves}
 use Rattle.surface.specs.Entry.{entry_of}
-
-pub opens : (d : Desk) → Fresh first_counter d → Opens d
-opens d F = record { empty = by_the_functions.fresh first_counter d F; good = F.good }
 
 -- ---- what is entered
 

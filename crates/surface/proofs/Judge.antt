@@ -13,11 +13,8 @@ use Rattle.mailbox.specs.Fields.{the, mailbox_type, service, operation}
 use Rattle.mailbox.specs.Numbers as names
 use Rattle.mailbox.specs.Headers.{sdo_info_of}
 use Rattle.mailbox.specs.declared.numbers.ListedType.{ListedType}
-use Rattle.mailbox.specs.declared.numbers.ListedType.TheVariants as ListedType
 use Rattle.mailbox.specs.declared.numbers.ListedService.{ListedService}
-use Rattle.mailbox.specs.declared.numbers.ListedService.TheVariants as ListedService
 use Rattle.mailbox.specs.declared.numbers.ListedOpCode.{ListedOpCode}
-use Rattle.mailbox.specs.declared.numbers.ListedOpCode.TheVariants as ListedOpCode
 use Rattle.judge.specs.Answers.{answer_of, one_of}
 use Rattle.judge.specs.Storage.{stored}
 use Rattle.judge.specs.Download.{judge_download}
