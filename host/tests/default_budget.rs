@@ -130,7 +130,7 @@ fn the_longest_list_through_the_smallest_mailbox_takes_65535_replies() {
 fn every_place_has_the_same_number() {
     for (front, text) in [
         ("#define COE_DESK_DEFAULT_BUDGET ", include_str!("../../include/coe_desk.h")),
-        ("defaultBudget = ", include_str!("../../crates/transfer/specs/Entry.antt")),
+        ("default_budget = ", include_str!("../../crates/transfer/specs/Entry.antt")),
         ("pub const DEFAULT_BUDGET: u16 = ", include_str!("../../crates/transfer/src/entry.rt")),
         ("DEFAULT_BUDGET = ", include_str!("../../tools/cases/model.py")),
     ] {
