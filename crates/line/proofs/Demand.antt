@@ -1,10 +1,10 @@
 -- Demand 3 holds of the line's own desk, whatever the machine, and no accepted call is lost: `demand3`, `loses_none`. The induction is
 -- over the calls, from any desk whose seats are distinct, and claims `Good`. Transfers that never send are parts too, so no filter
 -- stands in it. Assumes nothing.
-use mathlib.Core.Path.{◌≡◌, refl, sym, ap, ◌∙◌}
+use mathlib.Core.Path.{◌≡◌, refl, sym, ◌∙◌}
 use Prim.Native.Nat.{ℕ}
 use mathlib.Core.Bool.{Bool, false, true≢false}
-use mathlib.Core.List.{List, [], ◌∷◌, ◌++◌, append_assoc, append-nil}
+use mathlib.Core.List.{List, [], ◌∷◌, ◌++◌, append_assoc}
 use mathlib.Core.Option.{Option, none, some}
 use borrow.Author.Tests.{eqb-true}
 use lib.Dec.{eqb}
@@ -18,9 +18,10 @@ use Rattle.line.specs.Transfers.{seat_of, is_enter, own, transfers, listed}
 use Rattle.line.specs.Alone.{Demand3, LosesNone}
 use Rattle.line.specs.Sound.{Distinct}
 use Rattle.line.proofs.Rulings.{eqb_self, eqb_sym}
-use Rattle.line.proofs.Seats.{seated_cons, seated_snoc, seated_place, seated_vacate, vacated, vacate-cons, vacate-head, vacate_self, find_other, find_head, find_seated}
-use Rattle.line.proofs.Steps.{head_turn, enter_01, send_02, receive_judged, leave_03}
+use Rattle.line.proofs.Seats.{seated_cons, seated_snoc, seated_place, seated_vacate, vacated, vacate-cons, vacate-head, find_other, find_head, find_seated}
+use Rattle.line.proofs.Steps.{head_turn, enter_01, send_02}
 use Rattle.line.proofs.Moves.{at, Move, stays, joins, asks, hears, goes, move}
+use Rattle.line.proofs.Single.{hears_alone, leaves_alone}
 use Rattle.line.proofs.Kept.{distinct_move}
 use Rattle.line.proofs.Ones.{entered_first}
 use Rattle.line.proofs.Quiet.{chain_listed}
@@ -71,16 +72,12 @@ module _ (M : Machine) where
 
   -- whoever leaves has made its last call
   module _ (s : ℕ) (t : Transfer) (xs : Events M) (ps : List (Part M)) (n : own s xs ≡ []) (a : no_seat s ≡ false) where
-    alone : (p : Pass) → step M (at M ((s, t) ∷ []) p) (leave s) ≡ (at M [] p, left)
-    unfolding seated
-    alone p = leave_03 M (at M ((s, t) ∷ []) p) s a (rw (eqb_self s)) ∙ ap (λ (l : Line Transfer). (at M l p, left)) (vacate_self s t [])
-
     goes_here : (q : ℕ × Transfer) (l : Line Transfer) → q ≡ (s, t) → seated q.0 l ≡ false → (p : Pass)
         → Chain M p (waiting M l xs ++ ps) → Chain M p (waiting M (q ∷ l) (ev M (leave s) left ∷ xs) ++ ps)
     unfolding waiting trace after calls seat_of is_enter
     goes_here q l e h p C =
         rw (e, own_here M (leave s) left xs s refl refl, n, waiting_other M (leave s) left xs s refl l (rw e at h))
-        (chain_cons M (leave s) left ((s, t) ∷ []) [] p p [] (waiting M l xs ++ ps) (alone p) (refl, C))
+        (chain_cons M (leave s) left ((s, t) ∷ []) [] p p [] (waiting M l xs ++ ps) (leaves_alone M s a p t) (refl, C))
 
     goes_chain : (l : Line Transfer) → find s l ≡ accept t → Distinct l → (p : Pass) → Chain M p (waiting M (vacate s l) xs ++ ps)
         → Chain M p (waiting M l (ev M (leave s) left ∷ xs) ++ ps)
@@ -120,8 +117,7 @@ module _ (M : Machine) where
       (send_02 M (at M ((s, t) ∷ []) p) s b t (head_turn s (s, t) [] a (eqb_self s)) r e f) G
   good_move xs (hears {l = l} {p = p} s m t r a e f) D G =
       good_turn (receive s m) (received r.0) (keep okay xs) l p p s t r.1 refl refl D.0
-      (receive_judged M (at M ((s, t) ∷ []) p) s m t (head_turn s (s, t) [] a (eqb_self s)) r e f
-      ∙ ap (λ (x : Line Transfer). (at M x p, received r.0)) (append-nil (place s r.1))) G
+      (hears_alone M s a p m t r e f) G
   good_move xs (goes {l = l} {p = p} s t a h) D G = good_goes s t (keep okay xs) l p a h D G
 
   good_end : (l : Line Transfer) (p : Pass) → Chain M p (waiting M l [] ++ entering M [])

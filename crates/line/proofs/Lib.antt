@@ -3,6 +3,7 @@ pub mod Rulings
 pub mod Seats
 pub mod Steps
 pub mod Moves
+pub mod Single
 pub mod Room
 pub mod Kept
 pub mod Parts
@@ -14,6 +15,7 @@ pub mod Served
 pub mod Told
 pub mod Refine
 pub mod Others
+pub mod Advance
 pub mod Counter
 pub mod Refusals
 pub mod Obeys
