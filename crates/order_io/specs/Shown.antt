@@ -1,5 +1,5 @@
--- A piece or the end of the input, as it is taken and written: the run and every lent byte afterwards are those of x. What `write` handed on
--- no contract of the kit says. Assumes nothing.
+-- A piece or the end of the input, as it is taken and written: the run and every lent byte afterwards are those of x. What the output
+-- took is not said here. Assumes nothing.
 use Rattle.std.specs.Prelude.{◌≡◌, List, ℕ}
 use Rattle.wire.specs.Store.{laid}
 use Rattle.wire.specs.Words.{One}
