@@ -7,6 +7,7 @@ use crate::alarm::{abort, emergency};
 use crate::headers::{HeadersRead, read_headers, wrong_address};
 use crate::places::DOWNLOAD_LEAST;
 
+#[tactic(auto, using(wire::proofs::Tests::tests), unfolding(crate::specs::Download::download_of))]
 fn download(size: usize) -> Verdict
     ensures { result ≡ download_of size }
 {
@@ -17,6 +18,7 @@ fn download(size: usize) -> Verdict
 }
 
 // Judges the reply to a download of an index and sub-index.
+#[tactic(auto, using(crate::proofs::InOrder::order), unfolding(crate::specs::Download::judge_download, crate::specs::Reply::reply_to))]
 pub fn judge_download(s: &[u8], index: u16, sub: u8) -> Verdict
     ensures { result ≡ judge_download index sub s.now }
 {

@@ -63,6 +63,7 @@ pub enum HeadersRead {
 }
 
 // Of the reply to an upload or a download.
+#[tactic(auto, using(crate::proofs::InOrder::fronts), unfolding(crate::specs::Headers::read_headers))]
 pub(crate) fn read_headers(s: &[u8]) -> HeadersRead
     ensures { result ≡ read_headers s.now }
 {
@@ -100,6 +101,7 @@ pub enum SegmentHeadersRead {
 }
 
 // Of a segment, whose own header is one byte.
+#[tactic(auto, using(crate::proofs::InOrder::fronts), unfolding(crate::specs::Headers::read_segment_headers))]
 pub(crate) fn read_segment_headers(s: &[u8]) -> SegmentHeadersRead
     ensures { result ≡ read_segment_headers s.now }
 {

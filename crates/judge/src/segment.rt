@@ -38,6 +38,7 @@ fn segment(size: usize, h: SegmentHeaders, earlier: u32, n: u32) -> Verdict
 }
 
 // Judges a segment after chunks of `earlier` bytes, into a buffer of n.
+#[tactic(auto, using(crate::proofs::InOrder::segment_order), unfolding(crate::specs::Segment::judge_segment))]
 pub fn judge_segment(s: &[u8], earlier: u32, n: u32) -> Verdict
     ensures { result ≡ judge_segment earlier n s.now }
 {

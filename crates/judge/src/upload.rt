@@ -62,6 +62,7 @@ fn upload(s: &[u8], h: Headers, n: u32) -> Verdict
 }
 
 // Judges the first reply to an upload of an index and sub-index into a buffer of n bytes.
+#[tactic(auto, using(crate::proofs::InOrder::order), unfolding(crate::specs::Upload::judge_upload, crate::specs::Reply::reply_to))]
 pub fn judge_upload(s: &[u8], index: u16, sub: u8, n: u32) -> Verdict
     ensures { result ≡ judge_upload index sub n s.now }
 {

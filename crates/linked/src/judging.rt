@@ -4,6 +4,7 @@ ghost use Rattle.linked.specs.Judging.{unjudged, verdict_for, place_for, went_on
 
 use judge::{Answer, Verdict, answer_of, plain};
 
+#[tactic(auto, using(wire::proofs::Tests::tests), unfolding(crate::specs::Judging::unjudged))]
 fn is_unjudged(kind: u8) -> bool
     ensures { result ≡ unjudged kind }
 {
@@ -25,6 +26,7 @@ fn is_unjudged(kind: u8) -> bool
     true
 }
 
+#[tactic(auto, using(wire::proofs::Tests::tests), unfolding(crate::specs::Judging::verdict_for))]
 fn verdict_for(kind: u8, index: u16, sub: u8, earlier: u32, reply: &[u8], n: u32) -> Verdict
     ensures { result ≡ verdict_for kind index sub earlier n reply.now }
 {
@@ -41,6 +43,7 @@ fn verdict_for(kind: u8, index: u16, sub: u8, earlier: u32, reply: &[u8], n: u32
 }
 
 // Where the chunk goes: the reply to an upload or a download has no earlier chunks.
+#[tactic(auto, using(wire::proofs::Tests::tests), unfolding(crate::specs::Judging::place_for))]
 fn place_for(kind: u8, earlier: u32) -> usize
     ensures { result ≡ place_for kind earlier }
 {
@@ -76,6 +79,7 @@ fn goes_on(last: bool, answer: Answer, number: u8, begun: u8, len: u16) -> Answe
     went_on(number, begun, len)
 }
 
+#[tactic(auto, using(wire::proofs::Tests::tests), unfolding(crate::specs::Judging::begun_by))]
 fn begun_by(kind: u8) -> u8
     ensures { result ≡ begun_by kind }
 {

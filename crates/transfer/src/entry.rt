@@ -18,6 +18,7 @@ pub enum Kind {
     Unlisted,
 }
 
+#[tactic(auto, using(wire::proofs::Tests::tests), unfolding(crate::specs::Entry::kind_of))]
 pub(crate) fn kind_of(kind: u8, sub: u8) -> Kind
     ensures { result ≡ kind_of kind sub }
 {
@@ -42,6 +43,7 @@ pub(crate) fn kind_of(kind: u8, sub: u8) -> Kind
     Kind::Unlisted
 }
 
+#[tactic(auto, using(wire::proofs::Tests::tests), unfolding(crate::specs::Entry::outside))]
 fn is_outside(low: u16, high: u16, n: u16) -> bool
     ensures { result ≡ outside low high n }
 {
