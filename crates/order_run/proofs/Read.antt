@@ -1,8 +1,9 @@
 -- What the change that a line makes at the desk says, by what the desk's calls promised. Assumes nothing.
 use Prim.Native.Nat.{ℕ}
-use mathlib.Core.Path.{◌≡◌, refl, sym, ap, ◌∙◌, subst}
+use mathlib.Core.Path.{◌≡◌, refl, sym, ap, ◌∙◌}
 use mathlib.Core.List.{List}
 use native.Mathlib.Omega.{arith}
+use Rattle.std.specs.Prelude.{Some}
 use borrow.Author.Tests.{eq-eqb, ne_eqb}
 use Rattle.wire.specs.Words.{pick}
 use Rattle.wire.proofs.Cases.{by}
@@ -15,25 +16,15 @@ use Rattle.transfer.specs.Entry.{unfit_of, opened_of}
 use Rattle.transfer.specs.Coe.{coe_machine, begins_with}
 use Rattle.desk.specs.Record.{Queue, view_of, Good}
 use Rattle.desk.specs.Calls.{called_of, answer_for}
-use Rattle.desk.specs.Change.{changed_by, called_by, stays_at, change_of, Changes, ChangesLent}
+use Rattle.desk.specs.Change.{changed_by, called_by, change_of, Changes, ChangesLent}
 use Rattle.desk.specs.declared.Desk.{Desk}
 use Rattle.desk.specs.declared.Called.{Called}
 use Rattle.desk.specs.declared.change.Change.{Change}
 use Rattle.desk.proofs.Kept.{gives}
 use Rattle.order_run.specs.Entry.{form_of}
-use Rattle.order_run.specs.Turns.{called, lent_back, Said, failed, request, after_enter, after_form, after_receive, after_reply, kept_reply, after_frame, kept_frame, Says}
+use Rattle.order_run.specs.Turns.{called, lent_back, failed, request, after_enter, after_form, after_receive, after_reply, kept_reply, after_frame, kept_frame, Says}
 use Rattle.order_run.specs.declared.entry.Form.TheVariants.{Listed, Unlisted}
 use Rattle.order_run.proofs.Spoken.{number_1}
-
-pub says_as : {d : Desk} {x y : Said} {c : Change} {k : List ℕ} → x ≡ y → Says d x c k → Says d y c k
-says_as {d} {c = c} {k = k} e S = subst (λ (s : Said). Says d s c k) e S
-
--- the desk stays, and ff is said
-pub says_failed : {d : Desk} {c : Change} (k : List ℕ) → Good d → c ≡ stays_at 0xff → Says d (failed d) c k
-unfolding after_receive
-says_failed {d} k G e =
-    subst (λ (c : Change). Says d (failed d) c k) (sym e)
-    (record { told = refl; good = G; within = record { ordered = omega arith; ends = omega arith; lies = omega arith } })
 
 -- ---- an entry
 
@@ -45,7 +36,7 @@ module _ {d : Desk} (s : List ℕ) {o : Order} {c : Change} (g : Good d) (f : fo
   unfolding called
   entering = ap after_enter G.makes ∙ ap (after_form d) (sym f)
 
-  pub entered_yes : (k : List ℕ) → c.answer.number ≡ 1 → Says d (after_form d (form_of s)) c k
+  pub entered_yes : (k : List ℕ) → c.answer.number ≡ 1 → Says d (after_form d (form_of s)) (Some c) k
   entered_yes k e =
       record {
         told =
@@ -70,18 +61,16 @@ module _ {d : Desk} (s : List ℕ) {o : Order} {c : Change} (g : Good d) (f : fo
       (λ u. ap (λ (x : Change). changed_by x d) (by_outcome _ (enter_15 coe_machine (view_of d) 0 o 0x15 refl h (rw u))))
       (λ u. absurd (z (ap (λ (x : Change). x.answer.number) (by_outcome _ (enter_01 coe_machine (view_of d) 0 o (opened_of o) refl h (rw u)))))))
 
-  pub entered_no : {c' : Change} (k : List ℕ) → (c.answer.number ≡ 1 → ⊥) → c' ≡ stays_at 0xff → Says d (after_form d (form_of s)) c' k
-  entered_no k z e =
-      says_as
-      (ap failed (sym (entry_left z))
+  pub entered_no : (c.answer.number ≡ 1 → ⊥) → failed d ≡ after_form d (form_of s)
+  entered_no z =
+      ap failed (sym (entry_left z))
       ∙ ap (λ b. pick b (request (changed_by c d)) (failed (changed_by c d))) (sym (ne_eqb c.answer.number 1 z))
-      ∙ entering)
-      (says_failed k g e)
+      ∙ entering
 
 -- ---- a reply
 
 module _ {d : Desk} {s k k' : List ℕ} {c : Change} (g : Good d) (G : ChangesLent d (receive 0 (s, k)) c k k') where
-  pub reply_says : Says d (after_reply d s k) c k'
+  pub reply_says : Says d (after_reply d s k) (Some c) k'
   unfolding after_reply called lent_back
   reply_says =
       record {

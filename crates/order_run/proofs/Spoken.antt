@@ -20,7 +20,7 @@ use Rattle.desk.specs.declared.record.Slot.{Slot}
 use Rattle.desk.proofs.Moved.{moved_none}
 use Rattle.judge.proofs.Laid.{laid_join, laid_nil}
 use Rattle.order_text.specs.Text.{hex_text, text_in}
-use Rattle.order_run.specs.Turns.{called, lent_back, line_text, Said, last, failed, sending, request, after_receive, after_all, Says, quiet, Turned}
+use Rattle.order_run.specs.Turns.{called, lent_back, line_text, Said, last, failed, sending, request, after_receive, after_all, Tells, quiet, Turned}
 use Rattle.order_run.specs.declared.turns.Turn.{Turn}
 use Rattle.order_run.proofs.Printing.{length_line, all_text, take_least}
 
@@ -150,7 +150,7 @@ slot_set d c W q =
     let m : d.line ≡ moved d.line c.first c.last = sym (ap (moved d.line c.first) f ∙ moved_none d.line c.first) in
     ap (λ (l : List Slot). record { line = set l c.at c.slot; waiting = c.waiting; counter = c.counter }) m ∙ sym (rw i.0)
 
-pub quiet_turned : {d : Desk} {x : Said} {c : Change} {k : List ℕ} (o : List ℕ) (at : ℕ) → Says d x c k → quiet c ≡ true → at ≤ length o
+pub quiet_turned : {d : Desk} {x : Said} {c : Change} {k : List ℕ} (o : List ℕ) (at : ℕ) → Tells d x c k → quiet c ≡ true → at ≤ length o
     → Turned x at (turn (record { line = set d.line c.at c.slot; waiting = c.waiting; counter = c.counter }) 1 at) o o
 quiet_turned {d} {x} {c} {k} o at S q h =
     let n = (quiet_is c q).2 in

@@ -1,6 +1,6 @@
 -- What a line of an order file does and prints, by the desk's calls at seat 0. Document 01, "The order program": "It uses seat 0, a 16-byte
 -- frame buffer, a data buffer of 4,096 bytes". Assumes nothing.
-use Rattle.std.specs.Prelude.{ℕ, ◌+◌, ◌≤◌, ◌≡◌, Bool, false, List, [], ◌∷◌, ◌++◌, eqb, leb, length, take, replicate}
+use Rattle.std.specs.Prelude.{ℕ, ◌+◌, ◌≤◌, ◌≡◌, Bool, false, List, [], ◌∷◌, ◌++◌, eqb, leb, length, take, replicate, Option, Some, None}
 use Rattle.wire.specs.Words.{pick}
 use Rattle.wire.specs.Store.{laid}
 use Rattle.line.specs.Desk.{Call, enter, send, receive, leave, step}
@@ -102,13 +102,18 @@ after_all phase d =
 -- ---- what the functions promise that read a line
 
 -- a change at the desk d says x, where the data buffer then holds kept
-pub record Says (d : Desk) (x : Said) (c : Change) (kept : List ℕ) : Type 0 where
+pub record Tells (d : Desk) (x : Said) (c : Change) (kept : List ℕ) : Type 0 where
   pub told : after_receive (called_by c d) kept ≡ x
   pub good : Good (changed_by c d)
   pub within : Within c
 
--- and says it whatever the data buffer holds
-abbrev pub Enters : Desk → Said → Change → Type 0
+-- and of a line: the change that it makes at the desk d, or none of a bad one, which says ff
+abbrev pub Says : Desk → Said → Option Change → List ℕ → Type 0
+Says d x (Some c) kept = Tells d x c kept
+Says d x None kept = failed d ≡ x
+
+-- and whatever the data buffer holds
+abbrev pub Enters : Desk → Said → Option Change → Type 0
 Enters d x c = (kept : List ℕ) → Says d x c kept
 
 -- a reply is still due, and one slot is all that changes

@@ -12,7 +12,7 @@ ghost use Rattle.order_run.specs.Turns.{Says};
 ghost use Rattle.order_run.specs.Feed.{st_of, st, after, line_ended, finished, end_said, end_kept, Begun, Table, Going, Starts, Feeds};
 
 use desk::Desk;
-use desk::change::{Change, stays};
+use desk::change::Change;
 use digits::{Part, digit_table, further, is_bad, is_begun, is_whole, nothing, put, whole_bytes};
 use turns::{ENTRY, OVER, REPLY, all_read, frame_read, is_quiet, last_number, least, print_answer};
 
@@ -49,7 +49,7 @@ pub fn start() -> Run
     }
 }
 
-fn line_end(desk: Desk, phase: u8, part: Part, frame: &[u8], data: &mut [u8]) -> Change
+fn line_end(desk: Desk, phase: u8, part: Part, frame: &[u8], data: &mut [u8]) -> Option<Change>
     requires good { Good desk }
     requires begun { Begun part }
     requires frame_len { (length frame.now ≡ 1486) × (length «data».old ≡ 4096) }
@@ -59,7 +59,7 @@ fn line_end(desk: Desk, phase: u8, part: Part, frame: &[u8], data: &mut [u8]) ->
         let count = part.count;
         return frame_read(desk, phase, &frame[..count], data);
     }
-    stays(0xff)
+    None
 }
 
 // "nested loops over lines and digits, left by a label at the first bad character"
@@ -110,18 +110,27 @@ fn feed_piece(
         }
         if i < text.len() {
             let change = line_end(desk, phase, part, frame, data);
-            if is_quiet(change) {
-                let at = change.at;
-                let slot = change.slot;
-                desk.line[at] = slot;
-                desk.waiting = change.waiting;
-                desk.counter = change.counter;
-                phase = REPLY;
-            } else {
-                let turn = print_answer(desk, change, data, out, printed);
-                desk = turn.desk;
-                phase = turn.phase;
-                printed = turn.end;
+            match change {
+                Some(change) if is_quiet(change) => {
+                    let at = change.at;
+                    let slot = change.slot;
+                    desk.line[at] = slot;
+                    desk.waiting = change.waiting;
+                    desk.counter = change.counter;
+                    phase = REPLY;
+                }
+                Some(change) => {
+                    let turn = print_answer(desk, change, data, out, printed);
+                    desk = turn.desk;
+                    phase = turn.phase;
+                    printed = turn.end;
+                }
+                None => {
+                    let turn = last_number(desk, 0xff, out, printed);
+                    desk = turn.desk;
+                    phase = turn.phase;
+                    printed = turn.end;
+                }
             }
             part = nothing();
             i += 1;

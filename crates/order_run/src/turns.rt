@@ -8,7 +8,7 @@ ghost use Rattle.order_run.specs.Entry.{form_of};
 
 use crate::entry::{Form, form_of};
 use desk::Desk;
-use desk::change::{Change, changed, stays};
+use desk::change::{Change, changed};
 
 // The seat of document 01's order program.
 const SEAT: u8 = 0;
@@ -90,32 +90,32 @@ fn done(desk: Desk, payload: u32, data: &[u8], out: &mut [u8], at: usize) -> Tur
     }
 }
 
-// A bad entry leaves the desk and is ff.
-fn entry_read(desk: Desk, frame: &[u8]) -> Change
+// A bad entry changes nothing.
+fn entry_read(desk: Desk, frame: &[u8]) -> Option<Change>
     requires { Good desk }
     ensures { Enters desk (after_form desk (form_of frame.now)) result }
 {
     let form = form_of(frame);
     let Form::Listed(order) = form else {
-        return stays(0xff);
+        return None;
     };
     let change = desk.entering(SEAT, order);
     let answer = change.answer;
     if answer.number == 0x01 {
-        return change;
+        return Some(change);
     }
-    stays(0xff)
+    None
 }
 
-// What a line changes at the desk: small, where the desk handed on by value would be copied at each hand.
-pub(crate) fn frame_read(desk: Desk, phase: u8, frame: &[u8], data: &mut [u8]) -> Change
+// What a line changes at the desk, if it is not bad: small, where the desk handed on by value would be copied at each hand.
+pub(crate) fn frame_read(desk: Desk, phase: u8, frame: &[u8], data: &mut [u8]) -> Option<Change>
     requires { Good desk }
     ensures { Says desk (after_frame phase desk frame.now «data».old) result «data».new × («data».new ≡ kept_frame phase desk frame.now «data».old) }
 {
     if phase == ENTRY {
         return entry_read(desk, frame);
     }
-    Desk::receiving(desk, SEAT, frame, data)
+    Some(Desk::receiving(desk, SEAT, frame, data))
 }
 
 // Whether the reply is still due, and one slot of the desk all that changes: the desk is then changed where it lies.

@@ -12,7 +12,7 @@ use Rattle.order_run.proofs.Spoken.{turned_as, turned_at, quiet_turned}
 use Rattle.order_run.proofs.Characters.{put_digit, begun_put}
 use Rattle.order_run.proofs.Feeding.{Digits, Lines, digits_start, through, digits_put, digits_whole, line_done, rested_over, rested_end, rested_bad}
 use Rattle.order_run.proofs.feed_piece.Goals as goal
-use Rattle.order_run.proofs.feed_piece.Goals.{else-loop-i-test, then-loop-i-test+then-c-eq10, then-is_quiet, else-is_quiet}
+use Rattle.order_run.proofs.feed_piece.Goals.{else-loop-i-test, then-loop-i-test+then-c-eq10, in-Some, in-Some-2, in-None}
 
 -- the lines so far, the whole bytes that a line is gone on with, and the digits behind them
 gone_on : {t : List ℕ} {s₁ : St} {o₁ : List ℕ} {d : Desk} {ph : ℕ} {p : Part} {f k o : List ℕ} {n i : ℕ} {p₂ : Part} {f₂ : List ℕ} {m : ℕ}
@@ -50,13 +50,14 @@ lines-preserved-then-i-text c =
     let newline : get_or c.args.text.now l.i 0 ≡ 10 =
     elim c.loop-i-test.branch [ else-loop-i-test w ↦ absurd (omega (arith, w.loop-i-test.false, c.if-i-text.true)) | then-loop-i-test+then-c-eq10 w ↦ w.if-c-eq10.true ] in
     let spoken : Turned (end_said (st l.desk l.phase l.part l.frame c.lines.«data»)) l.printed
-    (record { desk = c.if-is_quiet.desk; phase = c.if-is_quiet.phase; end = c.if-is_quiet.printed }) l.out c.if-is_quiet.out =
-    elim c.if-is_quiet.branch [
-      | then-is_quiet w ↦ turned_at w.desk-is w.phase-is w.printed-is w.out-is (quiet_turned l.out l.printed e.ensures.0 (sym c.is_quiet.ensures ∙ w.if-is_quiet.true) (omega (arith, l.invariant.room)))
-      | else-is_quiet w ↦ turned_at w.desk-is w.phase-is w.printed-is w.out-is (turned_as e.ensures.0.told w.print_answer-turn.ensures)
+    (record { desk = c.match-change.desk; phase = c.match-change.phase; end = c.match-change.printed }) l.out c.match-change.out =
+    elim c.match-change.branch [
+      | in-Some w ↦ turned_at w.desk-is w.phase-is w.printed-is w.out-is (quiet_turned l.out l.printed (rw w.in-Some.is at e.ensures.0) (sym w.is_quiet.ensures ∙ w.if-is_quiet.true) (omega (arith, l.invariant.room)))
+      | in-Some-2 w ↦ turned_at w.desk-is w.phase-is w.printed-is w.out-is (turned_as (rw w.in-Some-2.is at e.ensures.0).told w.print_answer-turn.ensures)
+      | in-None w ↦ turned_at w.desk-is w.phase-is w.printed-is w.out-is (turned_as (rw w.in-None.is at e.ensures.0) w.last_number-turn.ensures)
     ] in
     line_done (gone_on c.lines.invariant c.requires.text_len_bound c.if-phase-eq-OVER.false w.ensures w.auto.frame c.further-part.ensures l.invariant)
-    c.if-i-text.true newline l.invariant.going spoken e.ensures.1 e.auto.«data» c.if-is_quiet.auto.out c.nothing-part-then-i-text.ensures
+    c.if-i-text.true newline l.invariant.going spoken e.ensures.1 e.auto.«data» c.match-change.auto.out c.nothing-part-then-i-text.ensures
 
 pub lines-preserved : goal.lines-preserved
 lines-preserved c =

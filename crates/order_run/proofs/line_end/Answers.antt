@@ -1,7 +1,6 @@
 -- `line_end` meets its contract: a whole frame is read, and an odd line is bad.
 use mathlib.Core.Path.{sym, ◌∙◌}
 use Rattle.order_run.specs.Feed.{st}
-use Rattle.order_run.proofs.Read.{says_as, says_failed}
 use Rattle.order_run.proofs.Characters.{end_whole, end_odd}
 use Rattle.order_run.proofs.line_end.Goals as goal
 
@@ -10,10 +9,9 @@ returns-then-is_whole c =
     let a = c.args in
     let e = end_whole (st a.desk a.phase a.part a.frame.now a.«data».now) (sym c.is_whole.ensures ∙ c.if-is_whole.true) in
     let r = c.frame_read.ensures in
-    (says_as e.0 r.0, r.1 ∙ e.1)
+    (rw e.0 at r.0, r.1 ∙ e.1)
 
 pub returns : goal.returns
 returns c =
     let a = c.args in
-    let e = end_odd (st a.desk a.phase a.part a.frame.now a.«data».now) (sym c.is_whole.ensures ∙ c.if-is_whole.false) in
-    (says_as e.0 (says_failed a.«data».now c.requires.good c.stays.ensures), e.1)
+    end_odd (st a.desk a.phase a.part a.frame.now a.«data».now) (sym c.is_whole.ensures ∙ c.if-is_whole.false)

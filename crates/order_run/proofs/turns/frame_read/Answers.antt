@@ -1,17 +1,17 @@
 -- `frame_read` meets its contract: line one is the entry, the others are replies.
 use mathlib.Core.Path.{◌∙◌}
-use Rattle.order_run.proofs.Read.{says_as, reply_says, reply_kept, frame_entry, frame_reply}
+use Rattle.order_run.proofs.Read.{reply_says, reply_kept, frame_entry, frame_reply}
 use Rattle.order_run.proofs.turns.frame_read.Goals as goal
 
 pub returns-then-phase-eq-ENTRY : goal.returns-then-phase-eq-ENTRY
 returns-then-phase-eq-ENTRY c =
     let a = c.args in
     let f = frame_entry a.phase a.desk a.frame.now a.«data».now c.if-phase-eq-ENTRY.true in
-    (says_as f.0 (c.entry_read.ensures a.«data».now), f.1)
+    (rw f.0 at (c.entry_read.ensures a.«data».now), f.1)
 
 pub returns : goal.returns
 returns c =
     let a = c.args in
     let f = frame_reply a.phase a.desk a.frame.now a.«data».now c.if-phase-eq-ENTRY.false in
     let r = c.receiving.ensures in
-    (says_as f.0 (reply_says c.requires r), reply_kept c.requires r ∙ f.1)
+    (rw f.0 at (reply_says c.requires r), reply_kept c.requires r ∙ f.1)
