@@ -5,17 +5,14 @@ use mathlib.Core.List.{List}
 use mathlib.Core.Option.{Option}
 use Prim.Native.Nat.{ℕ}
 use native.Mathlib.Omega.{arith}
+use Rattle.std.specs.Prelude as rust
 use Rattle.line.specs.Machine.{Ruling, refuse, accept}
 use Rattle.line.specs.Desk.{Outcome, refused, Call, step}
 use Rattle.judge.specs.Answers.{plain_of}
 use Rattle.judge.specs.declared.Answer.{Answer}
 use Rattle.transfer.specs.declared.Transfer.{Transfer}
-use Rattle.transfer.specs.declared.Next.{Next}
-use Rattle.transfer.specs.declared.Start.TheVariants as start
-use Rattle.transfer.specs.declared.Sending.TheVariants as sending
-use Rattle.transfer.specs.declared.Step.TheVariants as stepped
 use Rattle.transfer.specs.Judgement.{next_with}
-use Rattle.transfer.specs.Coe.{coe_machine, Told, start_of, sending_of, frame_of, step_of, data_of}
+use Rattle.transfer.specs.Coe.{coe_machine, Told, sending_of, frame_of, step_of, data_of}
 use Rattle.desk.specs.declared.Desk.{Desk}
 use Rattle.desk.specs.declared.record.Turn.TheVariants.{Head, Refused}
 use Rattle.desk.specs.Record.{Queue, view_of, Good}
@@ -33,41 +30,33 @@ pub turn_head : (v : Ruling Transfer) (t : Transfer) → turn_of v ≡ Head t �
 turn_head (refuse n) t e = let z : ◌≡◌ {A = ℕ} 0 1 = cc in absurd (omega arith)
 turn_head (accept u) t e = let h : u ≡ t = cc in λ i. accept (h i)
 
-pub start_refused : (v : Ruling Transfer) (k : ℕ) → start_of v ≡ start.Refused k → v ≡ refuse k
-start_refused (refuse n) k e = let h : n ≡ k = cc in λ i. refuse (h i)
-start_refused (accept t) k e = let z : ◌≡◌ {A = ℕ} 0 1 = cc in absurd (omega arith)
-
-pub start_begun : (v : Ruling Transfer) (t : Transfer) → start_of v ≡ start.Begun t → v ≡ accept t
-start_begun (refuse n) t e = let z : ◌≡◌ {A = ℕ} 0 1 = cc in absurd (omega arith)
-start_begun (accept u) t e = let h : u ≡ t = cc in λ i. accept (h i)
-
 -- the frame buffer before is b
-pub sending_refused : (v : Ruling (List ℕ × Transfer)) (k : ℕ) → sending_of v ≡ sending.Refused k → v ≡ refuse k
+pub sending_refused : (v : Ruling (List ℕ × Transfer)) (k : ℕ) → sending_of v ≡ refuse k → v ≡ refuse k
 sending_refused (refuse n) k e = let h : n ≡ k = cc in λ i. refuse (h i)
-sending_refused (accept r) k e = let z : ◌≡◌ {A = ℕ} 0 1 = cc in absurd (omega arith)
+sending_refused (accept r) k e = cc
 
-pub sending_sent : (v : Ruling (List ℕ × Transfer)) (b : List ℕ) (t : Transfer) → sending_of v ≡ sending.Sent t → v ≡ accept (frame_of b v, t)
-sending_sent (refuse n) b t e = let z : ◌≡◌ {A = ℕ} 0 1 = cc in absurd (omega arith)
+pub sending_sent : (v : Ruling (List ℕ × Transfer)) (b : List ℕ) (t : Transfer) → sending_of v ≡ accept t → v ≡ accept (frame_of b v, t)
+sending_sent (refuse n) b t e = cc
 sending_sent (accept r) b t e = let h : r.1 ≡ t = cc in λ i. accept (r.0, h i)
 
 abbrev Got : Type 0
 Got = Told × Option Transfer
 
-pub step_refused : (v : Ruling Got) (k : ℕ) → step_of v ≡ stepped.Refused k → v ≡ refuse k
+pub step_refused : (v : Ruling Got) (k : ℕ) → step_of v ≡ refuse k → v ≡ refuse k
 step_refused (refuse n) k e = let h : n ≡ k = cc in λ i. refuse (h i)
-step_refused (accept r) k e = let z : ◌≡◌ {A = ℕ} 0 1 = cc in absurd (omega arith)
+step_refused (accept r) k e = cc
 
 -- a judged reply: the data buffer before is b
-pub record Judged (v : Ruling Got) (b : List ℕ) (a : Answer) (n : Next) : Type 0 where
+pub record Judged (v : Ruling Got) (b : List ℕ) (a : Answer) (n : rust.Option Transfer) : Type 0 where
   pub on : Option Transfer
   pub is : v ≡ accept ((a, data_of b v), on)
   pub next : n ≡ next_with on
 
-pub step_judged : (v : Ruling Got) (b : List ℕ) (a : Answer) (n : Next) → step_of v ≡ stepped.Judged a n → Judged v b a n
-step_judged (refuse k) b a n e = let z : ◌≡◌ {A = ℕ} 0 1 = cc in absurd (omega arith)
+pub step_judged : (v : Ruling Got) (b : List ℕ) (a : Answer) (n : rust.Option Transfer) → step_of v ≡ accept (a, n) → Judged v b a n
+step_judged (refuse k) b a n e = cc
 step_judged (accept r) b a n e =
-    let h : r.0.0 ≡ a = cc in
-    record { on = r.1; is = λ i. accept ((h i, r.0.1), r.1); next = cc }
+    let h : ◌≡◌ {A = Answer × rust.Option Transfer} (r.0.0, next_with r.1) (a, n) = cc in
+    record { on = r.1; is = λ i. accept (((h i).0, r.0.1), r.1); next = λ i. (sym h i).1 }
 
 -- ---- a refusal
 

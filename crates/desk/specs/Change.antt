@@ -1,13 +1,11 @@
 -- What a call changes in the record, and the record that the change makes. Assumes nothing.
-use Rattle.std.specs.Prelude.{◌≡◌, true, false, List, [], ◌∷◌, ℕ, zero, suc, ◌+◌, ◌-◌, ◌<◌, ◌≤◌, ltb, set, get_or}
+use Rattle.std.specs.Prelude.{◌≡◌, true, false, List, [], ◌∷◌, ℕ, zero, suc, ◌+◌, ◌-◌, ◌<◌, ◌≤◌, ltb, set, get_or, Option, Some, None}
 use Rattle.wire.specs.Words.{pick}
 use Rattle.line.specs.Desk.{Call, Outcome, refused, entered, sent, received, left, step}
 use Rattle.line.specs.Transfers.{seat_of}
 use Rattle.judge.specs.Answers.{plain_of}
 use Rattle.judge.specs.declared.Answer.{Answer}
 use Rattle.transfer.specs.declared.Transfer.{Transfer}
-use Rattle.transfer.specs.declared.Next.{Next}
-use Rattle.transfer.specs.declared.Next.TheVariants.{Over, On}
 use Rattle.transfer.specs.Coe.{coe_machine}
 use Rattle.desk.specs.Record.{view_of, slot_of, blank_of, place_in}
 use Rattle.desk.specs.Calls.{called_of, lent_after}
@@ -110,6 +108,6 @@ closes_at a d n = record {
   kept = false;
 }
 
-abbrev pub moves_on : Answer → Desk → ℕ → Next → Change
-moves_on a d s Over = closes_at a d 0
-moves_on a d s (On t) = heads_by a d s t d.counter
+abbrev pub moves_on : Answer → Desk → ℕ → Option Transfer → Change
+moves_on a d s None = closes_at a d 0
+moves_on a d s (Some t) = heads_by a d s t d.counter

@@ -5,7 +5,7 @@ ghost use Rattle.desk.specs.Change.{Within, called_by, stays_at, joins_by, heads
 use crate::record::{Slot, blank};
 use crate::{Called, Desk};
 use judge::Answer;
-use transfer::{Next, Transfer};
+use transfer::Transfer;
 
 // The places from `first` up to `last` each take what stands behind them, then `slot` comes to the place `at`; the line's length and
 // the counter of the next frame afterwards; and what the call answers. Where the record is `kept`, only the answer counts.
@@ -120,13 +120,13 @@ pub(crate) fn closes(answer: Answer, desk: Desk, place: usize) -> Change
 }
 
 // The head stays while its transfer goes on, and its seat is free when it is over.
-pub(crate) fn moves_on(answer: Answer, desk: Desk, seat: u8, next: Next) -> Change
+pub(crate) fn moves_on(answer: Answer, desk: Desk, seat: u8, next: Option<Transfer>) -> Change
     requires { 0 < desk.waiting }
     ensures { result ≡ moves_on answer desk seat next }
 {
     match next {
-        Next::Over => closes(answer, desk, 0),
-        Next::On(t) => heads(answer, desk, seat, t, desk.counter),
+        None => closes(answer, desk, 0),
+        Some(t) => heads(answer, desk, seat, t, desk.counter),
     }
 }
 

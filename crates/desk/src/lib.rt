@@ -11,7 +11,7 @@ ghost use Rattle.desk.specs.Change.{Changes, ChangesLent};
 use change::{Change, apart, changed, closes, heads, joins, moves_on, stays};
 use judge::Answer;
 use record::{Slot, Turn, empty, place, refusal_of, whose_turn};
-use transfer::{Order, Sending, Start, Step};
+use transfer::Order;
 
 pub mod change;
 pub mod record;
@@ -98,10 +98,9 @@ impl Desk {
         if place(self, seat) < n {
             return stays(0x11);
         }
-        let start = transfer::begin(order);
-        match start {
-            Start::Refused(number) => stays(number),
-            Start::Begun(t) => joins(self, seat, t),
+        match order.begin() {
+            Err(refusal) => stays(refusal.number()),
+            Ok(t) => joins(self, seat, t),
         }
     }
 
@@ -115,10 +114,9 @@ impl Desk {
             return stays(refusal_of(whose));
         };
         let counter = self.counter;
-        let sending = transfer::send(t, counter, frame);
-        match sending {
-            Sending::Refused(number) => stays(number),
-            Sending::Sent(u) => {
+        match t.send(counter, frame) {
+            Err(refusal) => stays(refusal.number()),
+            Ok(u) => {
                 let answer = judge::plain(0x02);
                 heads(answer, self, seat, u, line::following(counter))
             }
@@ -134,10 +132,9 @@ impl Desk {
         let Turn::Head(t) = whose else {
             return stays(refusal_of(whose));
         };
-        let step = transfer::receive(t, reply, buffer);
-        match step {
-            Step::Refused(number) => stays(number),
-            Step::Judged(answer, next) => moves_on(answer, self, seat, next),
+        match t.receive(reply, buffer) {
+            Err(refusal) => stays(refusal.number()),
+            Ok((answer, next)) => moves_on(answer, self, seat, next),
         }
     }
 

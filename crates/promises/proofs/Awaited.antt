@@ -6,6 +6,7 @@ use native.Mathlib.Omega.{arith}
 use borrow.Author.Tests.{eqb-true, ne_eqb}
 use lib.Dec.{eqb}
 use lib.ListN.{get_or}
+use Rattle.std.specs.Prelude.{Option, Some, None}
 use Rattle.wire.specs.Words.{pick}
 use Rattle.wire.proofs.Cases.{by}
 use Rattle.mailbox.specs.Headers.{sub_index_of}
@@ -17,21 +18,21 @@ use Rattle.transfer.specs.Entry.{kind_of, unfit_as}
 use Rattle.transfer.specs.Due.{request_as, first_request, reply_as, first_reply, due_of, request_due, awaiting_of}
 use Rattle.transfer.specs.declared.Order.{Order}
 use Rattle.transfer.specs.declared.entry.Kind.{Kind}
-use Rattle.transfer.specs.declared.entry.Kind.TheVariants.{Upload, Download, ObjectList, Quantities, Unlisted}
+use Rattle.transfer.specs.declared.entry.Kind.TheVariants.{Upload, Download, ObjectList, Quantities}
 use Rattle.promises.specs.Fields.{sub_of}
 use Rattle.promises.specs.Rules.{Answers, AwaitsAnAnswer, Validates}
 use Rattle.promises.proofs.Orders.{is_fit, fit_kind, inside}
 use Rattle.promises.proofs.Fields.{upload_packs, download_packs, segment_packs, information_packs}
 
 -- the sub-index of a kind fits its field
-abbrev SubFits : Kind → Type 0
-SubFits (Upload a) = sub_of a < 256
-SubFits (Download a) = sub_of a < 256
-SubFits ObjectList = Unit {0}
-SubFits Quantities = Unit {0}
-SubFits Unlisted = Unit {0}
+abbrev SubFits : Option Kind → Type 0
+SubFits (Some (Upload a)) = sub_of a < 256
+SubFits (Some (Download a)) = sub_of a < 256
+SubFits (Some ObjectList) = Unit {0}
+SubFits (Some Quantities) = Unit {0}
+SubFits None = Unit {0}
 
-either_fits : (b : Bool) (x y : Kind) → SubFits x → SubFits y → SubFits (pick b x y)
+either_fits : (b : Bool) (x y : Option Kind) → SubFits x → SubFits y → SubFits (pick b x y)
 either_fits true x y p q = p
 either_fits false x y p q = q
 
@@ -50,18 +51,18 @@ same_sub Complete = refl
 same_sub (Index b) = refl
 
 module _ (o : Order) (c : ℕ) (hc : c < 8) (hi : o.index < 65536) where
-  first_answers : (kind : Kind) → SubFits kind → unfit_as kind o ≡ false → Answers (packed_of c (request_as kind o)) (reply_as kind o)
-  first_answers (Upload a) h e =
+  first_answers : (kind : Option Kind) → SubFits kind → unfit_as kind o ≡ false → Answers (packed_of c (request_as kind o)) (reply_as kind o)
+  first_answers (Some (Upload a)) h e =
       let p = (upload_packs c o.index a hc hi h).holds in
       (ap (λ l. get_or l 9 0) p, ap (λ l. get_or l 10 0) p, ap (λ l. get_or l 11 0) p ∙ same_sub a)
-  first_answers (Download a) h e =
+  first_answers (Some (Download a)) h e =
       let w = inside 1 4 o.len e in
       let p = (download_packs c o.index a o.value o.len hc hi h w.0 w.1).holds in
       (ap (λ l. get_or l 9 0) p, ap (λ l. get_or l 10 0) p, ap (λ l. get_or l 11 0) p ∙ same_sub a)
-  first_answers ObjectList h e =
+  first_answers (Some ObjectList) h e =
       (ap (λ l. get_or l 4 0) (information_packs c o.index hc (inside 1 5 o.index e).1).holds, refl)
-  first_answers Quantities h e = (ap (λ l. get_or l 4 0) (information_packs c 0 hc (omega arith)).holds, refl)
-  first_answers Unlisted h e = absurd (false≢true (sym e))
+  first_answers (Some Quantities) h e = (ap (λ l. get_or l 4 0) (information_packs c 0 hc (omega arith)).holds, refl)
+  first_answers None h e = absurd (false≢true (sym e))
 
 pub awaits_an_answer : AwaitsAnAnswer
 unfolding request_due due_of awaiting_of first_request first_reply

@@ -7,6 +7,7 @@ use Prim.Native.Nat.{ℕ, zero, suc, ◌<◌, ◌≤◌}
 use native.Mathlib.Omega.{arith}
 use borrow.Author.Tests.{ltb-true, ltb-false, lt-leb, le-leb, ne_eqb}
 use lib.Dec.{eqb, ltb}
+use Rattle.std.specs.Prelude.{None}
 use Rattle.wire.specs.Words.{pick, within, either, first_of}
 use Rattle.wire.proofs.Cases.{by}
 use Rattle.mailbox.specs.declared.sub_index.SubIndex.TheVariants.{Complete, Index}
@@ -14,7 +15,6 @@ use Rattle.services.specs.Requests.{packed_of}
 use Rattle.transfer.specs.Entry.{kind_of, outside, unfit_as, unfit_of}
 use Rattle.transfer.specs.Due.{first_request, first_reply}
 use Rattle.transfer.specs.declared.Order.{Order}
-use Rattle.transfer.specs.declared.entry.Kind.TheVariants.{Unlisted}
 use Rattle.promises.specs.Orders.{unfit, Fit, Defaults, Asking, asks, Asked, AsksAsListed}
 use Rattle.promises.proofs.Fields.{upload_packs, download_packs, information_packs}
 
@@ -63,7 +63,7 @@ before false c x e = e
 
 -- a kind above the six
 module _ (k : ℕ) (h : 7 ≤ k) where
-  not_listed : (sub : ℕ) → kind_of k sub ≡ Unlisted
+  not_listed : (sub : ℕ) → kind_of k sub ≡ None
   unfolding kind_of
   not_listed sub =
       rw (

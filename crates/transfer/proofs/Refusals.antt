@@ -4,8 +4,13 @@ use mathlib.Core.Bool.{Bool, true, false, false≢true}
 use mathlib.Core.Option.{Option, none}
 use Prim.Native.Nat.{ℕ}
 use borrow.Author.Tests.{lt-ltb}
-use lib.Dec.{ltb, leb}
+use lib.Dec.{ltb, leb, eqb}
 use lib.ListN.{length}
+use Rattle.std.specs.Prelude.{Ok, Err}
+use Rattle.wire.specs.Words.{pick}
+use Rattle.wire.specs.Refusal.{number_of}
+use Rattle.wire.specs.declared.refusal.Refusal.{Refusal}
+use Rattle.wire.specs.declared.refusal.Refusal.TheVariants.{NoSuchSeat, SeatTaken, SeatEmpty, NotAtHead, OtherDue as OtherIsDue, BadOrder, BufferLength, Undecodable, WrongReply, TooLarge, MissingBytes, LengthField, BudgetSpent}
 use Rattle.wire.proofs.Cases.{by}
 use Rattle.judge.specs.Answers.{done_or, answer_of}
 use Rattle.judge.specs.declared.Verdict.{Verdict}
@@ -13,7 +18,7 @@ use Rattle.judge.specs.declared.Verdict.TheVariants.{Refused, Emergency, Aborted
 use Rattle.judge.proofs.Payload.{refused_stores_nothing}
 use Rattle.transfer.specs.Judgement.{unless_last, next_of}
 use Rattle.transfer.specs.Coe.{Told, judged, receives_with, sends_if_due, receives_if_due}
-use Rattle.transfer.specs.Refusals.{OtherDue, TooLong, EndsUnstored}
+use Rattle.transfer.specs.Refusals.{OtherDue, TooLong, EndsUnstored, OneResult}
 use Rattle.transfer.specs.declared.Transfer.{Transfer}
 use Rattle.transfer.proofs.Numbers.{accepted}
 
@@ -52,3 +57,46 @@ ends_unstored t l r e h =
       ap (λ (x : Told × Option Transfer). x.0.1) (sym A) ∙ refused_stores_nothing v l.0 t.sum l.1 g,
       ap (λ (x : Told × Option Transfer). x.1) (sym A) ∙ over t v g,
     )
+
+-- ---- one result for each ruling
+
+-- the refusal of a number
+unfoldable refusal_at : ℕ → Refusal
+refusal_at n =
+    pick (eqb n 0x10) NoSuchSeat
+    (pick (eqb n 0x11) SeatTaken
+    (pick (eqb n 0x12) SeatEmpty
+    (pick (eqb n 0x13) NotAtHead
+    (pick (eqb n 0x14) OtherIsDue
+    (pick (eqb n 0x15) BadOrder
+    (pick (eqb n 0x16) BufferLength
+    (pick (eqb n 0x20) Undecodable
+    (pick (eqb n 0x23) WrongReply
+    (pick (eqb n 0x24) TooLarge
+    (pick (eqb n 0x25) MissingBytes
+    (pick (eqb n 0x26) LengthField
+    BudgetSpent)))))))))))
+
+same_refusal : (e : Refusal) → refusal_at (number_of e) ≡ e
+unfolding refusal_at
+same_refusal NoSuchSeat = refl
+same_refusal SeatTaken = refl
+same_refusal SeatEmpty = refl
+same_refusal NotAtHead = refl
+same_refusal OtherIsDue = refl
+same_refusal BadOrder = refl
+same_refusal BufferLength = refl
+same_refusal Undecodable = refl
+same_refusal WrongReply = refl
+same_refusal TooLarge = refl
+same_refusal MissingBytes = refl
+same_refusal LengthField = refl
+same_refusal BudgetSpent = refl
+
+pub one_result : OneResult
+one_result A (Ok a) (Ok b) e = let h : a ≡ b = cc in λ i. Ok (h i)
+one_result A (Ok a) (Err f) e = cc
+one_result A (Err d) (Ok b) e = cc
+one_result A (Err d) (Err f) e =
+    let h : number_of d ≡ number_of f = cc in
+    ap Err (sym (same_refusal d) ∙ ap refusal_at h ∙ same_refusal f)

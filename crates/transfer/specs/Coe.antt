@@ -1,6 +1,9 @@
 -- The CoE transfer as a machine of `line`, and how this crate's functions give its rulings back. Assumes nothing.
-use Rattle.std.specs.Prelude.{ℕ, false, List, ltb, length}
+use Rattle.std.specs.Prelude.{ℕ, false, List, ltb, length, Result, Ok, Err}
+use Rattle.std.specs.Prelude as rust
 use Rattle.std.proofs.Math.Option.{Option}
+use Rattle.wire.specs.Refusal.{number_of}
+use Rattle.wire.specs.declared.refusal.Refusal.{Refusal}
 use Rattle.wire.specs.Words.{pick}
 use Rattle.wire.specs.Front.{in_front}
 use Rattle.services.specs.Requests.{packed_of}
@@ -17,12 +20,6 @@ use Rattle.transfer.specs.Due.{due_of, request_due, awaiting_of}
 use Rattle.transfer.specs.Judgement.{judged_as, next_of, next_with}
 use Rattle.transfer.specs.declared.Order.{Order}
 use Rattle.transfer.specs.declared.Transfer.{Transfer}
-use Rattle.transfer.specs.declared.Start.{Start}
-use Rattle.transfer.specs.declared.Start.TheVariants as start
-use Rattle.transfer.specs.declared.Sending.{Sending}
-use Rattle.transfer.specs.declared.Sending.TheVariants as sending
-use Rattle.transfer.specs.declared.Step.{Step}
-use Rattle.transfer.specs.declared.Step.TheVariants as step
 use Rattle.transfer.specs.declared.due.Due.{Due}
 use Rattle.transfer.specs.declared.due.Due.TheVariants as due
 use Rattle.transfer.specs.declared.due.Reply.{Reply}
@@ -94,23 +91,24 @@ sends_if_due t counter frame = pick (request_due t) (sends_with t counter frame)
 unfoldable pub receives_if_due : Transfer → List ℕ → List ℕ → Ruling (Told × Option Transfer)
 receives_if_due t s d = pick (request_due t) (refuse 0x14) (receives_with t (s, d))
 
--- ---- a ruling as an enum, and each lent buffer as it is afterwards: "all unchanged, also for all 1x"
+-- ---- what the code gives back, and each lent buffer as it is afterwards: "all unchanged, also for all 1x"
 
-abbrev pub start_of : Ruling Transfer → Start
-start_of (refuse n) = start.Refused n
-start_of (accept t) = start.Begun t
+-- a result as the ruling that it stands for, which no other result does (Refusals, OneResult)
+abbrev pub ruling_of : {A : Type 0} → Result A Refusal → Ruling A
+ruling_of (Err e) = refuse (number_of e)
+ruling_of (Ok a) = accept a
 
-abbrev pub sending_of : Ruling (List ℕ × Transfer) → Sending
-sending_of (refuse n) = sending.Refused n
-sending_of (accept r) = sending.Sent r.1
+abbrev pub sending_of : Ruling (List ℕ × Transfer) → Ruling Transfer
+sending_of (refuse n) = refuse n
+sending_of (accept r) = accept r.1
 
 abbrev pub frame_of : List ℕ → Ruling (List ℕ × Transfer) → List ℕ
 frame_of frame (refuse n) = frame
 frame_of frame (accept r) = r.0
 
-abbrev pub step_of : Ruling (Told × Option Transfer) → Step
-step_of (refuse n) = step.Refused n
-step_of (accept r) = step.Judged r.0.0 (next_with r.1)
+abbrev pub step_of : Ruling (Told × Option Transfer) → Ruling (Answer × rust.Option Transfer)
+step_of (refuse n) = refuse n
+step_of (accept r) = accept (r.0.0, next_with r.1)
 
 abbrev pub data_of : List ℕ → Ruling (Told × Option Transfer) → List ℕ
 data_of d (refuse n) = d

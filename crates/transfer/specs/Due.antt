@@ -1,5 +1,5 @@
 -- What is due of a transfer, and how a request that is sent moves it on. Assumes nothing.
-use Rattle.std.specs.Prelude.{ℕ, Bool, true, false, eqb}
+use Rattle.std.specs.Prelude.{ℕ, Bool, true, false, eqb, Option, Some, None}
 use Rattle.wire.specs.Words.{pick}
 use Rattle.mailbox.specs.Headers.{sub_index_of}
 use Rattle.services.specs.declared.Request.{Request}
@@ -9,30 +9,30 @@ use Rattle.transfer.specs.Entry.{kind_of}
 use Rattle.transfer.specs.declared.Order.{Order}
 use Rattle.transfer.specs.declared.Transfer.{Transfer}
 use Rattle.transfer.specs.declared.entry.Kind.{Kind}
-use Rattle.transfer.specs.declared.entry.Kind.TheVariants.{Upload, Download, ObjectList, Quantities, Unlisted}
+use Rattle.transfer.specs.declared.entry.Kind.TheVariants.{Upload, Download, ObjectList, Quantities}
 use Rattle.transfer.specs.declared.due.Due.{Due}
 use Rattle.transfer.specs.declared.due.Due.TheVariants as due
 use Rattle.transfer.specs.declared.due.Reply.{Reply}
 use Rattle.transfer.specs.declared.due.Reply.TheVariants as reply
 
 -- "kind 1-5, or 0 for quantities"
-abbrev pub request_as : Kind → Order → Request
-request_as (Upload access) o = request.Upload o.index access
-request_as (Download access) o = request.Download o.index access o.value o.len
-request_as ObjectList o = request.Information o.index
-request_as Quantities o = request.Information 0
-request_as Unlisted o = request.Information 0
+abbrev pub request_as : Option Kind → Order → Request
+request_as (Some (Upload access)) o = request.Upload o.index access
+request_as (Some (Download access)) o = request.Download o.index access o.value o.len
+request_as (Some ObjectList) o = request.Information o.index
+request_as (Some Quantities) o = request.Information 0
+request_as None o = request.Information 0
 
 unfoldable pub first_request : Order → Request
 first_request o = request_as (kind_of o.kind o.sub) o
 
 -- "index or sub-index not the request's: 23"; "Information replies: one request, many replies."
-abbrev pub reply_as : Kind → Order → Reply
-reply_as (Upload access) o = reply.Upload o.index (sub_index_of access)
-reply_as (Download access) o = reply.Download o.index (sub_index_of access)
-reply_as ObjectList o = reply.Fragment false
-reply_as Quantities o = reply.Fragment false
-reply_as Unlisted o = reply.Fragment false
+abbrev pub reply_as : Option Kind → Order → Reply
+reply_as (Some (Upload access)) o = reply.Upload o.index (sub_index_of access)
+reply_as (Some (Download access)) o = reply.Download o.index (sub_index_of access)
+reply_as (Some ObjectList) o = reply.Fragment false
+reply_as (Some Quantities) o = reply.Fragment false
+reply_as None o = reply.Fragment false
 
 unfoldable pub first_reply : Order → Reply
 first_reply o = reply_as (kind_of o.kind o.sub) o

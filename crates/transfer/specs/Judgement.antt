@@ -1,5 +1,6 @@
 -- What a judged reply comes to. Document 01, "Judging a reply". Assumes nothing.
 use Rattle.std.specs.Prelude.{ℕ, ◌-◌, Bool, true, false, not, List, [], ◌∷◌, leb}
+use Rattle.std.specs.Prelude as rust
 use Rattle.std.proofs.Math.Option.{Option, none, some}
 use Rattle.wire.specs.Words.{pick, both}
 use Rattle.judge.specs.Download.{judge_download}
@@ -10,8 +11,6 @@ use Rattle.judge.specs.declared.Verdict.{Verdict}
 use Rattle.judge.specs.declared.Verdict.TheVariants.{Refused, Emergency, Aborted, Done, SegmentsFollow, Segment, Fragment, ReplyDue}
 use Rattle.transfer.specs.Stage.{segment_request_due, later_fragment_due}
 use Rattle.transfer.specs.declared.Transfer.{Transfer}
-use Rattle.transfer.specs.declared.Next.{Next}
-use Rattle.transfer.specs.declared.Next.TheVariants.{Over, On}
 use Rattle.transfer.specs.declared.due.Reply.{Reply}
 use Rattle.transfer.specs.declared.due.Reply.TheVariants as reply
 
@@ -65,6 +64,6 @@ next_of t (Fragment from len sum last) = unless_last last (advanced_to t later_f
 next_of t ReplyDue = some (advanced_to t t.stage t.sum)
 
 -- as the code gives it back
-abbrev pub next_with : Option Transfer → Next
-next_with none = Over
-next_with (some t) = On t
+abbrev pub next_with : Option Transfer → rust.Option Transfer
+next_with none = rust.None
+next_with (some t) = rust.Some t

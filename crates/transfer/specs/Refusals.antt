@@ -1,9 +1,10 @@
 -- What the numbers 1x and 2x leave, of a transfer by itself. Assumes nothing.
-use Rattle.std.specs.Prelude.{◌≡◌, true, false, List, ℕ, ◌<◌, leb, length}
+use Rattle.std.specs.Prelude.{◌≡◌, true, false, List, ℕ, ◌<◌, leb, length, Result}
 use Rattle.std.proofs.Math.Option.{Option, none}
+use Rattle.wire.specs.declared.refusal.Refusal.{Refusal}
 use Rattle.line.specs.Machine.{refuse, accept}
 use Rattle.transfer.specs.Due.{request_due}
-use Rattle.transfer.specs.Coe.{Lends, Told, sends_if_due, receives_with, receives_if_due}
+use Rattle.transfer.specs.Coe.{Lends, Told, ruling_of, sends_if_due, receives_with, receives_if_due}
 use Rattle.transfer.specs.declared.Transfer.{Transfer}
 
 -- "14: the other of send and receive is due", before 16
@@ -23,3 +24,7 @@ abbrev pub EndsUnstored : Type 0
 EndsUnstored = (t : Transfer) (l : Lends) (r : Told × Option Transfer) → receives_with t l ≡ accept r → leb 0x20 r.0.0.number ≡ true →
     (r.0.1 ≡ l.1)
     × (r.1 ≡ none)
+
+-- no two refusals have one number, so a ruling is one result's alone
+abbrev pub OneResult : Type 1
+OneResult = (A : Type 0) (r s : Result A Refusal) → ruling_of r ≡ ruling_of s → r ≡ s

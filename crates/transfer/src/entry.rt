@@ -15,65 +15,57 @@ pub enum Kind {
     Download(SubIndex),
     ObjectList,
     Quantities,
-    Unlisted,
-}
-
-#[tactic(auto, using(wire::proofs::Tests::tests), unfolding(crate::specs::Entry::kind_of))]
-pub(crate) fn kind_of(kind: u8, sub: u8) -> Kind
-    ensures { result ≡ kind_of kind sub }
-{
-    if kind == 1 {
-        return Kind::Upload(SubIndex::Index(sub));
-    }
-    if kind == 2 {
-        return Kind::Upload(SubIndex::Complete);
-    }
-    if kind == 3 {
-        return Kind::Download(SubIndex::Index(sub));
-    }
-    if kind == 4 {
-        return Kind::ObjectList;
-    }
-    if kind == 5 {
-        return Kind::Quantities;
-    }
-    if kind == 6 {
-        return Kind::Download(SubIndex::Complete);
-    }
-    Kind::Unlisted
 }
 
 #[tactic(auto, using(wire::proofs::Tests::tests), unfolding(crate::specs::Entry::outside))]
 fn is_outside(low: u16, high: u16, n: u16) -> bool
     ensures { result ≡ outside low high n }
 {
-    n < low || high < n
+    !(low..=high).contains(&n)
 }
 
-pub(crate) fn unfit(order: Order) -> bool
-    ensures { result ≡ unfit_of order }
-{
-    if order.budget == 0 {
-        return true;
+impl Order {
+    // The kind that the number names, if it is one of the six.
+    #[tactic(auto, using(wire::proofs::Tests::tests), unfolding(crate::specs::Entry::kind_of))]
+    pub(crate) fn kind(self) -> Option<Kind>
+        ensures { result ≡ kind_of self.kind self.sub }
+    {
+        match self.kind {
+            1 => Some(Kind::Upload(SubIndex::Index(self.sub))),
+            2 => Some(Kind::Upload(SubIndex::Complete)),
+            3 => Some(Kind::Download(SubIndex::Index(self.sub))),
+            4 => Some(Kind::ObjectList),
+            5 => Some(Kind::Quantities),
+            6 => Some(Kind::Download(SubIndex::Complete)),
+            _ => None,
+        }
     }
-    let kind = kind_of(order.kind, order.sub);
-    match kind {
-        Kind::Upload(_) => false,
-        Kind::Download(_) => is_outside(1, 4, order.len as u16),
-        Kind::ObjectList => is_outside(1, 5, order.index),
-        Kind::Quantities => false,
-        Kind::Unlisted => true,
-    }
-}
 
-pub(crate) fn opened(order: Order) -> Transfer
-    ensures { result ≡ opened_of order }
-{
-    Transfer {
-        order,
-        stage: FIRST_REQUEST,
-        toggle: 0,
-        left: order.budget,
-        sum: 0,
+    #[tactic(auto, using(wire::proofs::Tests::tests), unfolding(crate::specs::Entry::unfit_of))]
+    pub(crate) fn is_unfit(self) -> bool
+        ensures { result ≡ unfit_of self }
+    {
+        if self.budget == 0 {
+            return true;
+        }
+        match self.kind() {
+            Some(Kind::Upload(_)) => false,
+            Some(Kind::Download(_)) => is_outside(1, 4, self.len as u16),
+            Some(Kind::ObjectList) => is_outside(1, 5, self.index),
+            Some(Kind::Quantities) => false,
+            None => true,
+        }
+    }
+
+    pub(crate) fn opened(self) -> Transfer
+        ensures { result ≡ opened_of self }
+    {
+        Transfer {
+            order: self,
+            stage: FIRST_REQUEST,
+            toggle: 0,
+            left: self.budget,
+            sum: 0,
+        }
     }
 }

@@ -2,7 +2,7 @@
 -- refusals it is the turn of the transfer that the match binds.
 use mathlib.Core.Path.{sym, ap, ◌∙◌}
 use Rattle.line.proofs.Steps.{send_refused}
-use Rattle.transfer.specs.Coe.{coe_machine, frame_of}
+use Rattle.transfer.specs.Coe.{coe_machine, ruling_of, frame_of}
 use Rattle.desk.specs.Record.{view_of}
 use Rattle.desk.proofs.Changed.{changes_lent}
 use Rattle.desk.proofs.Told.{refuses, lent_same, turn_refused, turn_head, sending_refused, sending_sent}
@@ -16,19 +16,19 @@ returns-in_default c =
     rw (c.stays.ensures, c.refusal_of.ensures, c.in_default.is)
     (changes_lent (refuses _ c.requires _ _ e) (lent_same _ c.requires _ _ e _))
 
-pub returns-in-Refused : goal.returns-in-Refused
-returns-in-Refused c =
+pub returns-in-Err : goal.returns-in-Err
+returns-in-Err c =
     let turned = turn_head _ _ (sym c.whose_turn-whose.ensures ∙ c.in-Head.is) in
-    let v = sending_refused _ _ (sym c.send-sending.ensures.0 ∙ c.in-Refused.is) in
+    let v = sending_refused _ _ (sym c.send.ensures.0 ∙ ap ruling_of c.in-Err.is) in
     let e = send_refuses c.args.self c.requires c.args.seat _ turned c.args.frame.now _ v in
-    rw c.stays-in-Refused.ensures
-    (changes_lent (refuses _ c.requires _ _ e) (c.send-sending.ensures.1 ∙ ap (frame_of c.args.frame.now) v ∙ lent_same _ c.requires _ _ e _))
+    rw (c.stays-in-Err.ensures, c.number.ensures)
+    (changes_lent (refuses _ c.requires _ _ e) (c.send.ensures.1 ∙ ap (frame_of c.args.frame.now) v ∙ lent_same _ c.requires _ _ e _))
 
-pub returns-in-Sent : goal.returns-in-Sent
-returns-in-Sent c =
+pub returns-in-Ok : goal.returns-in-Ok
+returns-in-Ok c =
     let turned = turn_head _ _ (sym c.whose_turn-whose.ensures ∙ c.in-Head.is) in
     let b = c.args.frame.now in
-    let v = sending_sent _ b _ (sym c.send-sending.ensures.0 ∙ c.in-Sent.is) in
+    let v = sending_sent _ b _ (sym c.send.ensures.0 ∙ ap ruling_of c.in-Ok.is) in
     rw (c.heads.ensures, c.following.ensures, c.plain-answer.ensures)
     (changes_lent (sends c.args.self c.requires c.args.seat _ turned b _ _ v)
-    (c.send-sending.ensures.1 ∙ frame_sent c.args.self c.requires c.args.seat _ turned b _ _ v))
+    (c.send.ensures.1 ∙ frame_sent c.args.self c.requires c.args.seat _ turned b _ _ v))
