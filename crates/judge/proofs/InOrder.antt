@@ -5,15 +5,13 @@ use mathlib.Core.Bool.{Bool, true, false}
 use mathlib.Core.List.{List}
 use Prim.Native.Nat.{ℕ}
 use borrow.Author.Tests.{eq-eqb, ne_eqb}
+use Rattle.std.specs.Prelude.{Result, Ok, Err}
+use Rattle.wire.specs.declared.refusal.Refusal.{Refusal}
 use Rattle.mailbox.specs.Numbers.{command_number}
 use Rattle.mailbox.specs.declared.numbers.CoeCommand.{CoeCommand}
-use Rattle.mailbox.specs.declared.sdo.SdoHeader.{SdoHeader}
-use Rattle.mailbox.specs.declared.outcome.SdoHeaderRead.{SdoHeaderRead}
-use Rattle.mailbox.specs.declared.segment.SdoHeaderSegmented.{SdoHeaderSegmented}
-use Rattle.mailbox.specs.declared.outcome.SdoHeaderSegmentedRead.{SdoHeaderSegmentedRead}
 use Rattle.judge.specs.Alarm.{emergency_in, abort_in}
 use Rattle.judge.specs.Reply.{on_headers, in_order}
-use Rattle.judge.specs.Headers.{on_front, on_sdo, on_segmented}
+use Rattle.judge.specs.Headers.{on_front, on_header}
 use Rattle.judge.specs.Segment.{on_segment_headers}
 use Rattle.judge.specs.declared.headers.Front.{Front}
 use Rattle.judge.specs.declared.headers.FrontRead.{FrontRead}
@@ -76,19 +74,11 @@ module _ {A : Type 0} (r q : FrontRead) (e : r ≡ q) (none emergency : A) (f : 
   fronted h v t o = rw (← e, t, o)
 
 -- and behind it the third header
-module _ {A : Type 0} (none : A) where
-  pub no_sdo : (r q : SdoHeaderRead) → r ≡ q → (f : SdoHeader → A) → r ≡ SdoHeaderRead.Undecodable → none ≡ on_sdo q none f
-  no_sdo r q e f t = rw (← e, t)
+module _ {H A : Type 0} (none : A) (r q : Result H Refusal) (e : r ≡ q) (f : H → A) where
+  pub no_header : (refusal : Refusal) → r ≡ Err refusal → none ≡ on_header q none f
+  no_header refusal t = rw (← e, t)
 
-  pub an_sdo : (r q : SdoHeaderRead) → r ≡ q → (f : SdoHeader → A) (d : SdoHeader) (v : A) → r ≡ SdoHeaderRead.Header d → v ≡ f d → v ≡ on_sdo q none f
-  an_sdo r q e f d v t o = rw (← e, t, o)
+  pub a_header : (h : H) (v : A) → r ≡ Ok h → v ≡ f h → v ≡ on_header q none f
+  a_header h v t o = rw (← e, t, o)
 
-  pub no_segment : (r q : SdoHeaderSegmentedRead) → r ≡ q → (f : SdoHeaderSegmented → A) → r ≡ SdoHeaderSegmentedRead.Undecodable
-      → none ≡ on_segmented q none f
-  no_segment r q e f t = rw (← e, t)
-
-  pub a_segment : (r q : SdoHeaderSegmentedRead) → r ≡ q → (f : SdoHeaderSegmented → A) (g : SdoHeaderSegmented) (v : A)
-      → r ≡ SdoHeaderSegmentedRead.Header g → v ≡ f g → v ≡ on_segmented q none f
-  a_segment r q e f g v t o = rw (← e, t, o)
-
-pub ruleset fronts = (unfronted, urgent, fronted, no_sdo, an_sdo, no_segment, a_segment, refl)
+pub ruleset fronts = (unfronted, urgent, fronted, no_header, a_header, refl)

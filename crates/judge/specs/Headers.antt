@@ -1,18 +1,10 @@
 -- Rules 1 and 4 of "Judging a reply": what headers a reply has, and whether they are the transfer's. Assumes nothing.
-use Rattle.std.specs.Prelude.{Bool, not, List, ℕ, ltb, eqb, length}
+use Rattle.std.specs.Prelude.{Bool, not, List, ℕ, ltb, eqb, length, Result, Ok, Err}
 use Rattle.wire.specs.Words.{pick, either}
+use Rattle.wire.specs.declared.refusal.Refusal.{Refusal}
 use Rattle.mailbox.specs.Numbers.{type_number, service_number}
 use Rattle.mailbox.specs.Headers.{read_mailbox_header, read_coe_header, read_sdo_header, read_segmented, read_sdo_info}
 use Rattle.mailbox.specs.declared.MailboxHeader.{MailboxHeader}
-use Rattle.mailbox.specs.declared.outcome.MailboxHeaderRead.{MailboxHeaderRead}
-use Rattle.mailbox.specs.declared.coe.CoeHeader.{CoeHeader}
-use Rattle.mailbox.specs.declared.outcome.CoeHeaderRead.{CoeHeaderRead}
-use Rattle.mailbox.specs.declared.sdo.SdoHeader.{SdoHeader}
-use Rattle.mailbox.specs.declared.outcome.SdoHeaderRead.{SdoHeaderRead}
-use Rattle.mailbox.specs.declared.segment.SdoHeaderSegmented.{SdoHeaderSegmented}
-use Rattle.mailbox.specs.declared.outcome.SdoHeaderSegmentedRead.{SdoHeaderSegmentedRead}
-use Rattle.mailbox.specs.declared.information.SdoInfoHeader.{SdoInfoHeader}
-use Rattle.mailbox.specs.declared.outcome.SdoInfoHeaderRead.{SdoInfoHeaderRead}
 use Rattle.judge.specs.Places.{segment_least}
 use Rattle.judge.specs.declared.headers.Front.{Front}
 use Rattle.judge.specs.declared.headers.FrontRead.{FrontRead}
@@ -22,33 +14,17 @@ use Rattle.judge.specs.declared.headers.SegmentHeadersRead.{SegmentHeadersRead}
 use Rattle.judge.specs.declared.headers.InformationHeadersRead.{InformationHeadersRead}
 
 -- what is done with a header that was read, and what where it was not
-abbrev pub on_mailbox : {A : Type 0} → MailboxHeaderRead → A → (MailboxHeader → A) → A
-on_mailbox MailboxHeaderRead.Undecodable none f = none
-on_mailbox (MailboxHeaderRead.Header h) none f = f h
-
-abbrev pub on_coe : {A : Type 0} → CoeHeaderRead → A → (CoeHeader → A) → A
-on_coe CoeHeaderRead.Undecodable none f = none
-on_coe (CoeHeaderRead.Header h) none f = f h
-
-abbrev pub on_sdo : {A : Type 0} → SdoHeaderRead → A → (SdoHeader → A) → A
-on_sdo SdoHeaderRead.Undecodable none f = none
-on_sdo (SdoHeaderRead.Header h) none f = f h
-
-abbrev pub on_segmented : {A : Type 0} → SdoHeaderSegmentedRead → A → (SdoHeaderSegmented → A) → A
-on_segmented SdoHeaderSegmentedRead.Undecodable none f = none
-on_segmented (SdoHeaderSegmentedRead.Header h) none f = f h
-
-abbrev pub on_info : {A : Type 0} → SdoInfoHeaderRead → A → (SdoInfoHeader → A) → A
-on_info SdoInfoHeaderRead.Undecodable none f = none
-on_info (SdoInfoHeaderRead.Header h) none f = f h
+abbrev pub on_header : {H A : Type 0} → Result H Refusal → A → (H → A) → A
+on_header (Err e) none f = none
+on_header (Ok h) none f = f h
 
 -- what stands before byte 8 of a reply that must have so many bytes; document 02, [5]: "the header reading must not judge byte 8 when
 -- the service is 1, and all that use it follow"
 unfoldable pub read_front : ℕ → List ℕ → FrontRead
 read_front least s =
     pick (ltb (length s) least) FrontRead.Undecodable
-    (on_mailbox (read_mailbox_header s) FrontRead.Undecodable λ m.
-    on_coe (read_coe_header s) FrontRead.Undecodable λ c.
+    (on_header (read_mailbox_header s) FrontRead.Undecodable λ m.
+    on_header (read_coe_header s) FrontRead.Undecodable λ c.
     pick (eqb (service_number c.service) 1) FrontRead.Emergency
     (FrontRead.Front (record { mailbox = m; service = c.service })))
 
@@ -61,22 +37,22 @@ on_front (FrontRead.Front h) none emergency f = f h
 unfoldable pub read_headers : List ℕ → HeadersRead
 read_headers s =
     on_front (read_front 12 s) HeadersRead.Undecodable HeadersRead.Emergency λ h.
-    on_sdo (read_sdo_header s) HeadersRead.Undecodable λ d.
+    on_header (read_sdo_header s) HeadersRead.Undecodable λ d.
     HeadersRead.Headers (record { mailbox = h.mailbox; service = h.service; sdo = d })
 
 -- the same of a segment, whose byte 8 is its whole header; document 02, [1]: "20 now starts below 9 bytes there"
 unfoldable pub read_segment_headers : List ℕ → SegmentHeadersRead
 read_segment_headers s =
     on_front (read_front segment_least s) SegmentHeadersRead.Undecodable SegmentHeadersRead.Emergency λ h.
-    on_segmented (read_segmented s) SegmentHeadersRead.Undecodable λ g.
+    on_header (read_segmented s) SegmentHeadersRead.Undecodable λ g.
     SegmentHeadersRead.Headers (record { mailbox = h.mailbox; service = h.service; segment = g })
 
 -- "Information replies: .. Under 12 bytes or an unlisted type, service or operation: 20."
 unfoldable pub read_information_headers : List ℕ → InformationHeadersRead
 read_information_headers s =
-    on_mailbox (read_mailbox_header s) InformationHeadersRead.Undecodable λ m.
-    on_coe (read_coe_header s) InformationHeadersRead.Undecodable λ c.
-    on_info (read_sdo_info s) InformationHeadersRead.Undecodable λ i.
+    on_header (read_mailbox_header s) InformationHeadersRead.Undecodable λ m.
+    on_header (read_coe_header s) InformationHeadersRead.Undecodable λ c.
+    on_header (read_sdo_info s) InformationHeadersRead.Undecodable λ i.
     InformationHeadersRead.Headers (record { mailbox = m; service = c.service; information = i })
 
 -- "Type not 3, or (not for segments) index or sub-index not the request's: 23."

@@ -29,7 +29,7 @@ pub fn judge_download(s: &[u8], index: u16, sub: u8) -> Verdict
         HeadersRead::Headers(h) => {
             let sdo = h.sdo;
             let command = sdo.command;
-            if command.number() == 4 {
+            if u8::from(command) == 4 {
                 return abort(s);
             }
             if wrong_address(h, index, sub) {

@@ -3,13 +3,10 @@ ghost use Rattle.std.specs.Prelude.{◌≡◌};
 ghost use Rattle.judge.specs.Headers.{read_front, read_headers, read_segment_headers, read_information_headers, wrong_type, wrong_address};
 
 use crate::places::{SDO_LEAST, SEGMENT_LEAST};
-use mailbox::MailboxHeader;
+use mailbox::{Header, MailboxHeader};
 use mailbox::coe::CoeHeader;
 use mailbox::information::SdoInfoHeader;
 use mailbox::numbers::CoeService;
-use mailbox::outcome::{
-    CoeHeaderRead, MailboxHeaderRead, SdoHeaderRead, SdoHeaderSegmentedRead, SdoInfoHeaderRead,
-};
 use mailbox::sdo::SdoHeader;
 use mailbox::segment::SdoHeaderSegmented;
 
@@ -35,14 +32,14 @@ fn read_front(s: &[u8], least: usize) -> FrontRead
     if s.len() < least {
         return FrontRead::Undecodable;
     }
-    let MailboxHeaderRead::Header(mailbox) = MailboxHeader::unpack(s) else {
+    let Ok(mailbox) = MailboxHeader::unpack(s) else {
         return FrontRead::Undecodable;
     };
-    let CoeHeaderRead::Header(header) = CoeHeader::unpack(s) else {
+    let Ok(header) = CoeHeader::unpack(s) else {
         return FrontRead::Undecodable;
     };
     let service = header.service;
-    if service.number() == 1 {
+    if u8::from(service) == 1 {
         return FrontRead::Emergency;
     }
     FrontRead::Front(Front { mailbox, service })
@@ -72,7 +69,7 @@ pub(crate) fn read_headers(s: &[u8]) -> HeadersRead
         FrontRead::Undecodable => HeadersRead::Undecodable,
         FrontRead::Emergency => HeadersRead::Emergency,
         FrontRead::Front(front) => {
-            let SdoHeaderRead::Header(sdo) = SdoHeader::unpack(s) else {
+            let Ok(sdo) = SdoHeader::unpack(s) else {
                 return HeadersRead::Undecodable;
             };
             let mailbox = front.mailbox;
@@ -110,7 +107,7 @@ pub(crate) fn read_segment_headers(s: &[u8]) -> SegmentHeadersRead
         FrontRead::Undecodable => SegmentHeadersRead::Undecodable,
         FrontRead::Emergency => SegmentHeadersRead::Emergency,
         FrontRead::Front(front) => {
-            let SdoHeaderSegmentedRead::Header(segment) = SdoHeaderSegmented::unpack(s) else {
+            let Ok(segment) = SdoHeaderSegmented::unpack(s) else {
                 return SegmentHeadersRead::Undecodable;
             };
             let mailbox = front.mailbox;
@@ -141,13 +138,13 @@ pub enum InformationHeadersRead {
 pub(crate) fn read_information_headers(s: &[u8]) -> InformationHeadersRead
     ensures { result ≡ read_information_headers s.now }
 {
-    let MailboxHeaderRead::Header(mailbox) = MailboxHeader::unpack(s) else {
+    let Ok(mailbox) = MailboxHeader::unpack(s) else {
         return InformationHeadersRead::Undecodable;
     };
-    let CoeHeaderRead::Header(header) = CoeHeader::unpack(s) else {
+    let Ok(header) = CoeHeader::unpack(s) else {
         return InformationHeadersRead::Undecodable;
     };
-    let SdoInfoHeaderRead::Header(information) = SdoInfoHeader::unpack(s) else {
+    let Ok(information) = SdoInfoHeader::unpack(s) else {
         return InformationHeadersRead::Undecodable;
     };
     let service = header.service;
@@ -163,7 +160,7 @@ pub(crate) fn wrong_type(mailbox: MailboxHeader) -> bool
     ensures { result ≡ wrong_type mailbox }
 {
     let mailbox_type = mailbox.mailbox_type;
-    mailbox_type.number() != 3
+    u8::from(mailbox_type) != 3
 }
 
 // Rule 4 of an upload or a download.

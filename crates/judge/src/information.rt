@@ -44,7 +44,7 @@ pub fn judge_list(s: &[u8], begun: bool, earlier: u32, n: u32) -> Verdict
     };
     let information = h.information;
     let operation = information.op_code;
-    if operation.number() == 2 {
+    if u8::from(operation) == 2 {
         return fragment(s.len(), h, fragment_at(begun), earlier, n);
     }
     Verdict::ReplyDue

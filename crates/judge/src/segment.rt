@@ -50,7 +50,7 @@ pub fn judge_segment(s: &[u8], earlier: u32, n: u32) -> Verdict
             let mailbox = h.mailbox;
             let header = h.segment;
             let command = header.command;
-            if command.number() == 4 {
+            if u8::from(command) == 4 {
                 return abort(s);
             }
             if wrong_type(mailbox) {

@@ -73,7 +73,7 @@ pub fn judge_upload(s: &[u8], index: u16, sub: u8, n: u32) -> Verdict
         HeadersRead::Headers(h) => {
             let sdo = h.sdo;
             let command = sdo.command;
-            if command.number() == 4 {
+            if u8::from(command) == 4 {
                 return abort(s);
             }
             if wrong_address(h, index, sub) {

@@ -2,8 +2,9 @@
 ghost use Rattle.std.specs.Prelude.{◌≡◌};
 ghost use Rattle.mailbox.specs.Headers.{coe_header_bytes, read_coe_header};
 
-use crate::numbers::{CoeService, ListedService};
-use crate::outcome::CoeHeaderRead;
+use crate::Header;
+use crate::numbers::CoeService;
+use wire::refusal::Refusal;
 
 #[derive(Clone, Copy)]
 pub struct CoeHeader {
@@ -16,19 +17,18 @@ impl CoeHeader {
         ensures { result ≡ coe_header_bytes self }
     {
         let service = self.service;
-        [0, 16 * (service.number() % 16)]
+        [0, 16 * (u8::from(service) % 16)]
     }
+}
 
-    pub fn unpack(frame: &[u8]) -> CoeHeaderRead
-        ensures { result ≡ read_coe_header frame.now }
-    {
+impl Header for CoeHeader {
+    ghost read = { read_coe_header };
+
+    fn unpack(frame: &[u8]) -> Result<Self, Refusal> {
         if frame.len() < 8 {
-            return CoeHeaderRead::Undecodable;
+            return Err(Refusal::Undecodable);
         }
-        let listed = CoeService::from_number(wire::byte(frame, 7) / 16);
-        let ListedService::Listed(service) = listed else {
-            return CoeHeaderRead::Undecodable;
-        };
-        CoeHeaderRead::Header(CoeHeader { service })
+        let service = CoeService::try_from(wire::byte(frame, 7) / 16)?;
+        Ok(CoeHeader { service })
     }
 }

@@ -2,9 +2,10 @@
 ghost use Rattle.std.specs.Prelude.{◌≡◌};
 ghost use Rattle.mailbox.specs.Headers.{sdo_info_bytes, read_sdo_info};
 
+use crate::Header;
 use crate::flag::bit_of;
-use crate::numbers::{ListedOpCode, SdoInfoOpCode};
-use crate::outcome::SdoInfoHeaderRead;
+use crate::numbers::SdoInfoOpCode;
+use wire::refusal::Refusal;
 
 #[derive(Clone, Copy)]
 pub struct SdoInfoHeader {
@@ -20,25 +21,24 @@ impl SdoInfoHeader {
     {
         let op_code = self.op_code;
         [
-            op_code.number() % 128 + 128 * bit_of(self.incomplete),
+            u8::from(op_code) % 128 + 128 * bit_of(self.incomplete),
             0,
             (self.fragments_left % 256) as u8,
             (self.fragments_left / 256 % 256) as u8,
         ]
     }
+}
 
-    pub fn unpack(frame: &[u8]) -> SdoInfoHeaderRead
-        ensures { result ≡ read_sdo_info frame.now }
-    {
+impl Header for SdoInfoHeader {
+    ghost read = { read_sdo_info };
+
+    fn unpack(frame: &[u8]) -> Result<Self, Refusal> {
         if frame.len() < 12 {
-            return SdoInfoHeaderRead::Undecodable;
+            return Err(Refusal::Undecodable);
         }
         let first = wire::byte(frame, 8);
-        let listed = SdoInfoOpCode::from_number(first % 128);
-        let ListedOpCode::Listed(op_code) = listed else {
-            return SdoInfoHeaderRead::Undecodable;
-        };
-        SdoInfoHeaderRead::Header(SdoInfoHeader {
+        let op_code = SdoInfoOpCode::try_from(first % 128)?;
+        Ok(SdoInfoHeader {
             op_code,
             incomplete: first / 128 == 1,
             fragments_left: wire::word_at(frame, 10),

@@ -2,30 +2,30 @@
 ghost use Rattle.std.specs.Prelude.{◌≡◌};
 ghost use Rattle.mailbox.specs.Numbers.{priority_number, priority_of, type_number, type_of, service_number, service_of, command_number, command_of, operation_number, operation_of};
 
-#[derive(Clone, Copy)]
+use wire::refusal::Refusal;
+
+#[derive(Clone, Copy, Debug, PartialEq, Eq)]
 pub enum Priority {
-    Lowest,
-    Low,
-    High,
-    Highest,
+    Lowest = 0x00,
+    Low = 0x01,
+    High = 0x02,
+    Highest = 0x03,
 }
 
-impl Priority {
-    pub fn number(self) -> u8
-        ensures { result ≡ priority_number self }
-    {
-        match self {
-            Priority::Lowest => 0x00,
-            Priority::Low => 0x01,
-            Priority::High => 0x02,
-            Priority::Highest => 0x03,
-        }
-    }
+impl From<Priority> for u8 {
+    ghost from_gives = { λ p n. n ≡ priority_number p };
 
-    // Every number has a priority: the field is two bits wide.
-    pub fn from_number(n: u8) -> Priority
-        ensures { result ≡ priority_of n }
-    {
+    fn from(priority: Priority) -> u8 {
+        priority as u8
+    }
+}
+
+// Every number has a priority: the field is two bits wide.
+impl From<u8> for Priority {
+    ghost from_gives = { λ n p. p ≡ priority_of n };
+
+    #[tactic(auto, using(crate::proofs::Listed::looking), unfolding(crate::specs::Numbers::priority_of))]
+    fn from(n: u8) -> Priority {
         let cut = n % 4;
         match cut {
             0x00 => Priority::Lowest,
@@ -36,198 +36,163 @@ impl Priority {
     }
 }
 
-#[derive(Clone, Copy)]
+#[derive(Clone, Copy, Debug, PartialEq, Eq)]
 pub enum MailboxType {
     // Error.
-    Err,
+    Err = 0x00,
     // ADS over EtherCAT.
-    Aoe,
+    Aoe = 0x01,
     // Ethernet over EtherCAT.
-    Eoe,
+    Eoe = 0x02,
     // CAN application protocol over EtherCAT.
-    Coe,
+    Coe = 0x03,
     // File access over EtherCAT.
-    Foe,
+    Foe = 0x04,
     // Servo profile over EtherCAT.
-    Soe,
-    VendorSpecific,
+    Soe = 0x05,
+    VendorSpecific = 0x0f,
 }
 
-#[derive(Clone, Copy)]
-pub enum ListedType {
-    Listed(MailboxType),
-    Unlisted,
-}
+impl From<MailboxType> for u8 {
+    ghost from_gives = { λ t n. n ≡ type_number t };
 
-impl MailboxType {
-    pub fn number(self) -> u8
-        ensures { result ≡ type_number self }
-    {
-        match self {
-            MailboxType::Err => 0x00,
-            MailboxType::Aoe => 0x01,
-            MailboxType::Eoe => 0x02,
-            MailboxType::Coe => 0x03,
-            MailboxType::Foe => 0x04,
-            MailboxType::Soe => 0x05,
-            MailboxType::VendorSpecific => 0x0f,
-        }
+    fn from(mailbox_type: MailboxType) -> u8 {
+        mailbox_type as u8
     }
+}
 
-    pub fn from_number(n: u8) -> ListedType
-        ensures { result ≡ type_of n }
-    {
+impl TryFrom<u8> for MailboxType {
+    type Error = Refusal;
+
+    ghost try_from_gives = { λ n r. r ≡ type_of n };
+
+    #[tactic(auto, using(crate::proofs::Listed::looking), unfolding(crate::specs::Numbers::type_of))]
+    fn try_from(n: u8) -> Result<Self, Refusal> {
         match n {
-            0x00 => ListedType::Listed(MailboxType::Err),
-            0x01 => ListedType::Listed(MailboxType::Aoe),
-            0x02 => ListedType::Listed(MailboxType::Eoe),
-            0x03 => ListedType::Listed(MailboxType::Coe),
-            0x04 => ListedType::Listed(MailboxType::Foe),
-            0x05 => ListedType::Listed(MailboxType::Soe),
-            0x0f => ListedType::Listed(MailboxType::VendorSpecific),
-            _ => ListedType::Unlisted,
+            0x00 => Ok(MailboxType::Err),
+            0x01 => Ok(MailboxType::Aoe),
+            0x02 => Ok(MailboxType::Eoe),
+            0x03 => Ok(MailboxType::Coe),
+            0x04 => Ok(MailboxType::Foe),
+            0x05 => Ok(MailboxType::Soe),
+            0x0f => Ok(MailboxType::VendorSpecific),
+            _ => Err(Refusal::Undecodable),
         }
     }
 }
 
-#[derive(Clone, Copy)]
+#[derive(Clone, Copy, Debug, PartialEq, Eq)]
 pub enum CoeService {
-    Emergency,
-    SdoRequest,
-    SdoResponse,
-    TxPdo,
-    RxPdo,
-    TxPdoRemoteRequest,
-    RxPdoRemoteRequest,
-    SdoInformation,
+    Emergency = 0x01,
+    SdoRequest = 0x02,
+    SdoResponse = 0x03,
+    TxPdo = 0x04,
+    RxPdo = 0x05,
+    TxPdoRemoteRequest = 0x06,
+    RxPdoRemoteRequest = 0x07,
+    SdoInformation = 0x08,
 }
 
-#[derive(Clone, Copy)]
-pub enum ListedService {
-    Listed(CoeService),
-    Unlisted,
-}
+impl From<CoeService> for u8 {
+    ghost from_gives = { λ v n. n ≡ service_number v };
 
-impl CoeService {
-    pub fn number(self) -> u8
-        ensures { result ≡ service_number self }
-    {
-        match self {
-            CoeService::Emergency => 0x01,
-            CoeService::SdoRequest => 0x02,
-            CoeService::SdoResponse => 0x03,
-            CoeService::TxPdo => 0x04,
-            CoeService::RxPdo => 0x05,
-            CoeService::TxPdoRemoteRequest => 0x06,
-            CoeService::RxPdoRemoteRequest => 0x07,
-            CoeService::SdoInformation => 0x08,
-        }
+    fn from(service: CoeService) -> u8 {
+        service as u8
     }
+}
 
-    pub fn from_number(n: u8) -> ListedService
-        ensures { result ≡ service_of n }
-    {
+impl TryFrom<u8> for CoeService {
+    type Error = Refusal;
+
+    ghost try_from_gives = { λ n r. r ≡ service_of n };
+
+    #[tactic(auto, using(crate::proofs::Listed::looking), unfolding(crate::specs::Numbers::service_of))]
+    fn try_from(n: u8) -> Result<Self, Refusal> {
         match n {
-            0x01 => ListedService::Listed(CoeService::Emergency),
-            0x02 => ListedService::Listed(CoeService::SdoRequest),
-            0x03 => ListedService::Listed(CoeService::SdoResponse),
-            0x04 => ListedService::Listed(CoeService::TxPdo),
-            0x05 => ListedService::Listed(CoeService::RxPdo),
-            0x06 => ListedService::Listed(CoeService::TxPdoRemoteRequest),
-            0x07 => ListedService::Listed(CoeService::RxPdoRemoteRequest),
-            0x08 => ListedService::Listed(CoeService::SdoInformation),
-            _ => ListedService::Unlisted,
+            0x01 => Ok(CoeService::Emergency),
+            0x02 => Ok(CoeService::SdoRequest),
+            0x03 => Ok(CoeService::SdoResponse),
+            0x04 => Ok(CoeService::TxPdo),
+            0x05 => Ok(CoeService::RxPdo),
+            0x06 => Ok(CoeService::TxPdoRemoteRequest),
+            0x07 => Ok(CoeService::RxPdoRemoteRequest),
+            0x08 => Ok(CoeService::SdoInformation),
+            _ => Err(Refusal::Undecodable),
         }
     }
 }
 
-#[derive(Clone, Copy)]
+#[derive(Clone, Copy, Debug, PartialEq, Eq)]
 pub enum CoeCommand {
     // CiA 301 gives 0 to a segment reply; the Rust does not list it.
-    Segment,
-    Download,
-    Upload,
-    UploadSegment,
-    Abort,
+    Segment = 0x00,
+    Download = 0x01,
+    Upload = 0x02,
+    UploadSegment = 0x03,
+    Abort = 0x04,
 }
 
-#[derive(Clone, Copy)]
-pub enum ListedCommand {
-    Listed(CoeCommand),
-    Unlisted,
-}
+impl From<CoeCommand> for u8 {
+    ghost from_gives = { λ x n. n ≡ command_number x };
 
-impl CoeCommand {
-    pub fn number(self) -> u8
-        ensures { result ≡ command_number self }
-    {
-        match self {
-            CoeCommand::Segment => 0x00,
-            CoeCommand::Download => 0x01,
-            CoeCommand::Upload => 0x02,
-            CoeCommand::UploadSegment => 0x03,
-            CoeCommand::Abort => 0x04,
-        }
+    fn from(command: CoeCommand) -> u8 {
+        command as u8
     }
+}
 
-    pub fn from_number(n: u8) -> ListedCommand
-        ensures { result ≡ command_of n }
-    {
+impl TryFrom<u8> for CoeCommand {
+    type Error = Refusal;
+
+    ghost try_from_gives = { λ n r. r ≡ command_of n };
+
+    #[tactic(auto, using(crate::proofs::Listed::looking), unfolding(crate::specs::Numbers::command_of))]
+    fn try_from(n: u8) -> Result<Self, Refusal> {
         match n {
-            0x00 => ListedCommand::Listed(CoeCommand::Segment),
-            0x01 => ListedCommand::Listed(CoeCommand::Download),
-            0x02 => ListedCommand::Listed(CoeCommand::Upload),
-            0x03 => ListedCommand::Listed(CoeCommand::UploadSegment),
-            0x04 => ListedCommand::Listed(CoeCommand::Abort),
-            _ => ListedCommand::Unlisted,
+            0x00 => Ok(CoeCommand::Segment),
+            0x01 => Ok(CoeCommand::Download),
+            0x02 => Ok(CoeCommand::Upload),
+            0x03 => Ok(CoeCommand::UploadSegment),
+            0x04 => Ok(CoeCommand::Abort),
+            _ => Err(Refusal::Undecodable),
         }
     }
 }
 
-#[derive(Clone, Copy)]
+#[derive(Clone, Copy, Debug, PartialEq, Eq)]
 pub enum SdoInfoOpCode {
-    GetObjectDescriptionListRequest,
-    GetObjectDescriptionListResponse,
-    GetObjectDescriptionRequest,
-    GetObjectDescriptionResponse,
-    GetEntryDescriptionRequest,
-    GetEntryDescriptionResponse,
-    SdoInfoErrorRequest,
+    GetObjectDescriptionListRequest = 0x01,
+    GetObjectDescriptionListResponse = 0x02,
+    GetObjectDescriptionRequest = 0x03,
+    GetObjectDescriptionResponse = 0x04,
+    GetEntryDescriptionRequest = 0x05,
+    GetEntryDescriptionResponse = 0x06,
+    SdoInfoErrorRequest = 0x07,
 }
 
-#[derive(Clone, Copy)]
-pub enum ListedOpCode {
-    Listed(SdoInfoOpCode),
-    Unlisted,
-}
+impl From<SdoInfoOpCode> for u8 {
+    ghost from_gives = { λ o n. n ≡ operation_number o };
 
-impl SdoInfoOpCode {
-    pub fn number(self) -> u8
-        ensures { result ≡ operation_number self }
-    {
-        match self {
-            SdoInfoOpCode::GetObjectDescriptionListRequest => 0x01,
-            SdoInfoOpCode::GetObjectDescriptionListResponse => 0x02,
-            SdoInfoOpCode::GetObjectDescriptionRequest => 0x03,
-            SdoInfoOpCode::GetObjectDescriptionResponse => 0x04,
-            SdoInfoOpCode::GetEntryDescriptionRequest => 0x05,
-            SdoInfoOpCode::GetEntryDescriptionResponse => 0x06,
-            SdoInfoOpCode::SdoInfoErrorRequest => 0x07,
-        }
+    fn from(op_code: SdoInfoOpCode) -> u8 {
+        op_code as u8
     }
+}
 
-    pub fn from_number(n: u8) -> ListedOpCode
-        ensures { result ≡ operation_of n }
-    {
+impl TryFrom<u8> for SdoInfoOpCode {
+    type Error = Refusal;
+
+    ghost try_from_gives = { λ n r. r ≡ operation_of n };
+
+    #[tactic(auto, using(crate::proofs::Listed::looking), unfolding(crate::specs::Numbers::operation_of))]
+    fn try_from(n: u8) -> Result<Self, Refusal> {
         match n {
-            0x01 => ListedOpCode::Listed(SdoInfoOpCode::GetObjectDescriptionListRequest),
-            0x02 => ListedOpCode::Listed(SdoInfoOpCode::GetObjectDescriptionListResponse),
-            0x03 => ListedOpCode::Listed(SdoInfoOpCode::GetObjectDescriptionRequest),
-            0x04 => ListedOpCode::Listed(SdoInfoOpCode::GetObjectDescriptionResponse),
-            0x05 => ListedOpCode::Listed(SdoInfoOpCode::GetEntryDescriptionRequest),
-            0x06 => ListedOpCode::Listed(SdoInfoOpCode::GetEntryDescriptionResponse),
-            0x07 => ListedOpCode::Listed(SdoInfoOpCode::SdoInfoErrorRequest),
-            _ => ListedOpCode::Unlisted,
+            0x01 => Ok(SdoInfoOpCode::GetObjectDescriptionListRequest),
+            0x02 => Ok(SdoInfoOpCode::GetObjectDescriptionListResponse),
+            0x03 => Ok(SdoInfoOpCode::GetObjectDescriptionRequest),
+            0x04 => Ok(SdoInfoOpCode::GetObjectDescriptionResponse),
+            0x05 => Ok(SdoInfoOpCode::GetEntryDescriptionRequest),
+            0x06 => Ok(SdoInfoOpCode::GetEntryDescriptionResponse),
+            0x07 => Ok(SdoInfoOpCode::SdoInfoErrorRequest),
+            _ => Err(Refusal::Undecodable),
         }
     }
 }

@@ -2,9 +2,10 @@
 ghost use Rattle.std.specs.Prelude.{◌≡◌};
 ghost use Rattle.mailbox.specs.Headers.{sdo_header_bytes, read_sdo_header};
 
+use crate::Header;
 use crate::flag::bit_of;
-use crate::numbers::{CoeCommand, ListedCommand};
-use crate::outcome::SdoHeaderRead;
+use crate::numbers::CoeCommand;
+use wire::refusal::Refusal;
 
 #[derive(Clone, Copy)]
 pub struct SdoHeader {
@@ -28,25 +29,24 @@ impl SdoHeader {
                 + 2 * bit_of(self.expedited_transfer)
                 + 4 * (self.size % 4)
                 + 16 * bit_of(self.complete_access)
-                + 32 * (command.number() % 8),
+                + 32 * (u8::from(command) % 8),
             (self.index % 256) as u8,
             (self.index / 256 % 256) as u8,
             self.sub_index,
         ]
     }
+}
 
-    pub fn unpack(frame: &[u8]) -> SdoHeaderRead
-        ensures { result ≡ read_sdo_header frame.now }
-    {
+impl Header for SdoHeader {
+    ghost read = { read_sdo_header };
+
+    fn unpack(frame: &[u8]) -> Result<Self, Refusal> {
         if frame.len() < 12 {
-            return SdoHeaderRead::Undecodable;
+            return Err(Refusal::Undecodable);
         }
         let first = wire::byte(frame, 8);
-        let listed = CoeCommand::from_number(first / 32);
-        let ListedCommand::Listed(command) = listed else {
-            return SdoHeaderRead::Undecodable;
-        };
-        SdoHeaderRead::Header(SdoHeader {
+        let command = CoeCommand::try_from(first / 32)?;
+        Ok(SdoHeader {
             size_indicator: first % 2 == 1,
             expedited_transfer: first / 2 % 2 == 1,
             size: first / 4 % 4,

@@ -2,9 +2,10 @@
 ghost use Rattle.std.specs.Prelude.{◌≡◌};
 ghost use Rattle.mailbox.specs.Headers.{segmented_bytes, read_segmented};
 
+use crate::Header;
 use crate::flag::bit_of;
-use crate::numbers::{CoeCommand, ListedCommand};
-use crate::outcome::SdoHeaderSegmentedRead;
+use crate::numbers::CoeCommand;
+use wire::refusal::Refusal;
 
 #[derive(Clone, Copy)]
 pub struct SdoHeaderSegmented {
@@ -24,22 +25,21 @@ impl SdoHeaderSegmented {
             bit_of(self.is_last_segment)
                 + 2 * (self.segment_data_size % 8)
                 + 16 * bit_of(self.toggle)
-                + 32 * (command.number() % 8),
+                + 32 * (u8::from(command) % 8),
         ]
     }
+}
 
-    pub fn unpack(frame: &[u8]) -> SdoHeaderSegmentedRead
-        ensures { result ≡ read_segmented frame.now }
-    {
+impl Header for SdoHeaderSegmented {
+    ghost read = { read_segmented };
+
+    fn unpack(frame: &[u8]) -> Result<Self, Refusal> {
         if frame.len() < 9 {
-            return SdoHeaderSegmentedRead::Undecodable;
+            return Err(Refusal::Undecodable);
         }
         let first = wire::byte(frame, 8);
-        let listed = CoeCommand::from_number(first / 32);
-        let ListedCommand::Listed(command) = listed else {
-            return SdoHeaderSegmentedRead::Undecodable;
-        };
-        SdoHeaderSegmentedRead::Header(SdoHeaderSegmented {
+        let command = CoeCommand::try_from(first / 32)?;
+        Ok(SdoHeaderSegmented {
             is_last_segment: first % 2 == 1,
             segment_data_size: first / 2 % 8,
             toggle: first / 16 % 2 == 1,

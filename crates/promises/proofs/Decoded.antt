@@ -8,7 +8,10 @@ use native.Mathlib.Omega.{arith}
 use borrow.Author.Tests.{le-ltb, ltb-false}
 use lib.Dec.{ltb, eqb, lit≤}
 use lib.ListN.{length}
-use Rattle.wire.specs.Words.{pick, both}
+use Rattle.std.specs.Prelude.{Result, Ok, Err}
+use Rattle.wire.specs.declared.refusal.Refusal.{Refusal}
+use Rattle.wire.specs.declared.refusal.Refusal.TheVariants.{Undecodable}
+use Rattle.wire.specs.Words.{pick, both, map_ok}
 use Rattle.wire.specs.Bytes.{value}
 use Rattle.wire.specs.Fields.{read}
 use Rattle.wire.proofs.Cases.{by}
@@ -17,22 +20,16 @@ use Rattle.mailbox.specs.Fields.{the, mailbox_type, service, specifier, operatio
 use Rattle.mailbox.specs.Numbers as names
 use Rattle.mailbox.specs.Headers.{read_mailbox_header, mailbox_header_of, read_coe_header, coe_header_of, read_sdo_header, sdo_header_of, read_segmented, segmented_of, read_sdo_info, sdo_info_of}
 use Rattle.mailbox.specs.declared.MailboxHeader.{MailboxHeader}
-use Rattle.mailbox.specs.declared.outcome.MailboxHeaderRead.{MailboxHeaderRead}
-use Rattle.mailbox.specs.declared.outcome.SdoHeaderRead.{SdoHeaderRead}
-use Rattle.mailbox.specs.declared.outcome.SdoHeaderSegmentedRead.{SdoHeaderSegmentedRead}
-use Rattle.mailbox.specs.declared.outcome.SdoInfoHeaderRead.{SdoInfoHeaderRead}
 use Rattle.mailbox.specs.declared.numbers.MailboxType.{MailboxType}
-use Rattle.mailbox.specs.declared.numbers.ListedType.{ListedType}
 use Rattle.mailbox.specs.declared.coe.CoeHeader.{CoeHeader}
-use Rattle.mailbox.specs.declared.outcome.CoeHeaderRead.{CoeHeaderRead}
+use Rattle.mailbox.specs.declared.sdo.SdoHeader.{SdoHeader}
+use Rattle.mailbox.specs.declared.segment.SdoHeaderSegmented.{SdoHeaderSegmented}
+use Rattle.mailbox.specs.declared.information.SdoInfoHeader.{SdoInfoHeader}
 use Rattle.mailbox.specs.declared.numbers.CoeService.{CoeService}
-use Rattle.mailbox.specs.declared.numbers.ListedService.{ListedService}
 use Rattle.mailbox.specs.declared.numbers.CoeCommand.{CoeCommand}
-use Rattle.mailbox.specs.declared.numbers.ListedCommand.{ListedCommand}
 use Rattle.mailbox.specs.declared.numbers.SdoInfoOpCode.{SdoInfoOpCode}
-use Rattle.mailbox.specs.declared.numbers.ListedOpCode.{ListedOpCode}
 use Rattle.judge.specs.Answers.{answer_of, one_of}
-use Rattle.judge.specs.Headers.{on_mailbox, on_coe, on_sdo, on_segmented, on_info, on_front, read_front, read_headers, read_segment_headers, read_information_headers}
+use Rattle.judge.specs.Headers.{on_header, on_front, read_front, read_headers, read_segment_headers, read_information_headers}
 use Rattle.judge.specs.Alarm.{message_in, emergency_in}
 use Rattle.judge.specs.declared.Verdict.{Verdict}
 use Rattle.judge.specs.declared.Verdict.TheVariants.{Refused, Emergency}
@@ -48,49 +45,49 @@ use Rattle.promises.proofs.Lines.{Look, look, Tells, line, listed}
 
 -- ---- the listed numbers
 
-type_look : (n : ℕ) → Look names.type_number ListedType.Listed ListedType.Unlisted n (names.type_of n) (one_of (numbers types) n)
+type_look : (n : ℕ) → Look names.type_number Ok (Err Undecodable) n (names.type_of n) (one_of (numbers types) n)
 unfolding names.type_of
-type_look n = look names.type_number ListedType.Listed ListedType.Unlisted n names.types
+type_look n = look names.type_number Ok (Err Undecodable) n names.types
 
 service_look : (n : ℕ)
-    → Look names.service_number ListedService.Listed ListedService.Unlisted n (names.service_of n) (one_of (numbers services) n)
+    → Look names.service_number Ok (Err Undecodable) n (names.service_of n) (one_of (numbers services) n)
 unfolding names.service_of
-service_look n = look names.service_number ListedService.Listed ListedService.Unlisted n names.services
+service_look n = look names.service_number Ok (Err Undecodable) n names.services
 
 specifier_look : (n : ℕ)
-    → Look names.command_number ListedCommand.Listed ListedCommand.Unlisted n (names.command_of n) (one_of (numbers specifiers) n)
+    → Look names.command_number Ok (Err Undecodable) n (names.command_of n) (one_of (numbers specifiers) n)
 unfolding names.command_of
-specifier_look n = look names.command_number ListedCommand.Listed ListedCommand.Unlisted n names.commands
+specifier_look n = look names.command_number Ok (Err Undecodable) n names.commands
 
 pub operation_look : (n : ℕ)
-    → Look names.operation_number ListedOpCode.Listed ListedOpCode.Unlisted n (names.operation_of n) (one_of (numbers operations) n)
+    → Look names.operation_number Ok (Err Undecodable) n (names.operation_of n) (one_of (numbers operations) n)
 unfolding names.operation_of
-operation_look n = look names.operation_number ListedOpCode.Listed ListedOpCode.Unlisted n names.operations
+operation_look n = look names.operation_number Ok (Err Undecodable) n names.operations
 
 -- ---- what each kind's headers are, of the first two and of the third as it is read
 
 abbrev pub front_of : MailboxHeader → CoeHeader → Front
 front_of m c = record { mailbox = m; service = c.service }
 
-abbrev pub sdo_in : Front → SdoHeaderRead → HeadersRead
+abbrev pub sdo_in : Front → Result SdoHeader Refusal → HeadersRead
 sdo_in h r =
-    on_sdo r HeadersRead.Undecodable λ d. HeadersRead.Headers (record { mailbox = h.mailbox; service = h.service; sdo = d })
+    on_header r HeadersRead.Undecodable λ d. HeadersRead.Headers (record { mailbox = h.mailbox; service = h.service; sdo = d })
 
-abbrev pub segment_in : Front → SdoHeaderSegmentedRead → SegmentHeadersRead
+abbrev pub segment_in : Front → Result SdoHeaderSegmented Refusal → SegmentHeadersRead
 segment_in h r =
-    on_segmented r SegmentHeadersRead.Undecodable λ g.
+    on_header r SegmentHeadersRead.Undecodable λ g.
     SegmentHeadersRead.Headers (record { mailbox = h.mailbox; service = h.service; segment = g })
 
-abbrev pub information_in : MailboxHeader → CoeHeader → SdoInfoHeaderRead → InformationHeadersRead
+abbrev pub information_in : MailboxHeader → CoeHeader → Result SdoInfoHeader Refusal → InformationHeadersRead
 information_in m c r =
-    on_info r InformationHeadersRead.Undecodable λ i. InformationHeadersRead.Headers (record { mailbox = m; service = c.service; information = i })
+    on_header r InformationHeadersRead.Undecodable λ i. InformationHeadersRead.Headers (record { mailbox = m; service = c.service; information = i })
 
-nothing_made : {H : Type 0} (none : H) (a : MailboxHeaderRead) (b : CoeHeaderRead) (make : MailboxHeader → CoeHeader → H)
+nothing_made : {H : Type 0} (none : H) (a : Result MailboxHeader Refusal) (b : Result CoeHeader Refusal) (make : MailboxHeader → CoeHeader → H)
     → ((m : MailboxHeader) (c : CoeHeader) → make m c ≡ none)
-    → on_mailbox a none (λ m. on_coe b none (make m)) ≡ none
-nothing_made none MailboxHeaderRead.Undecodable b make e = refl
-nothing_made none (MailboxHeaderRead.Header m) CoeHeaderRead.Undecodable make e = refl
-nothing_made none (MailboxHeaderRead.Header m) (CoeHeaderRead.Header c) make e = e m c
+    → on_header a none (λ m. on_header b none (make m)) ≡ none
+nothing_made none (Err r) b make e = refl
+nothing_made none (Ok m) (Err r) make e = refl
+nothing_made none (Ok m) (Ok c) make e = e m c
 
 -- service 1, or what the other services are
 abbrev pub unless_one : {H : Type 0} → H → CoeHeader → H → H
@@ -102,14 +99,14 @@ module _ {H : Type 0} (none alarmed : H) (f : Front → H) where
   picked true h = refl
   picked false h = refl
 
-  behind_front : (a : MailboxHeaderRead) (b : CoeHeaderRead)
+  behind_front : (a : Result MailboxHeader Refusal) (b : Result CoeHeader Refusal)
       → on_front
-      (on_mailbox a FrontRead.Undecodable λ m. on_coe b FrontRead.Undecodable λ c. unless_one FrontRead.Emergency c (FrontRead.Front (front_of m c)))
+      (on_header a FrontRead.Undecodable λ m. on_header b FrontRead.Undecodable λ c. unless_one FrontRead.Emergency c (FrontRead.Front (front_of m c)))
       none alarmed f
-      ≡ on_mailbox a none λ m. on_coe b none λ c. unless_one alarmed c (f (front_of m c))
-  behind_front MailboxHeaderRead.Undecodable b = refl
-  behind_front (MailboxHeaderRead.Header m) CoeHeaderRead.Undecodable = refl
-  behind_front (MailboxHeaderRead.Header m) (CoeHeaderRead.Header c) = picked (eqb (names.service_number c.service) 1) (front_of m c)
+      ≡ on_header a none λ m. on_header b none λ c. unless_one alarmed c (f (front_of m c))
+  behind_front (Err r) b = refl
+  behind_front (Ok m) (Err r) = refl
+  behind_front (Ok m) (Ok c) = picked (eqb (names.service_number c.service) 1) (front_of m c)
 
 -- ---- an emergency
 
@@ -125,8 +122,8 @@ module _ (s : List ℕ) where
       )
 
   -- what is made of the first two headers, by the type and the service that were looked up
-  abbrev pub in_turn : {H : Type 0} → H → (MailboxHeader → CoeHeader → H) → ListedType → ListedService → H
-  in_turn none make a b = on_mailbox (mailbox_header_of s a) none λ m. on_coe (coe_header_of b) none (make m)
+  abbrev pub in_turn : {H : Type 0} → H → (MailboxHeader → CoeHeader → H) → Result MailboxType Refusal → Result CoeService Refusal → H
+  in_turn none make a b = on_header (map_ok (mailbox_header_of s) a) none λ m. on_header (map_ok coe_header_of b) none (make m)
 
   abbrev pub in_reply : {H : Type 0} → H → (MailboxHeader → CoeHeader → H) → H
   in_reply none make = in_turn none make (names.type_of (the mailbox_type s)) (names.service_of (the service s))
@@ -138,7 +135,7 @@ module _ (s : List ℕ) where
   -- a third header is not read under the rule's least length, and is q else
   module _ {H Q : Type 0} (least : ℕ) (h : 8 ≤ least) (none : H) (unread q : Q) where
     read_in_turn : (make : MailboxHeader → CoeHeader → Q → H) → ((m : MailboxHeader) (c : CoeHeader) → make m c unread ≡ none)
-        → on_mailbox (read_mailbox_header s) none (λ m. on_coe (read_coe_header s) none λ c. make m c (pick (under least s) unread q))
+        → on_header (read_mailbox_header s) none (λ m. on_header (read_coe_header s) none λ c. make m c (pick (under least s) unread q))
         ≡ pick (under least s) none (in_reply none λ m c. make m c q)
     unfolding read_mailbox_header read_coe_header
     read_in_turn make e =
@@ -154,32 +151,32 @@ module _ (s : List ℕ) where
         by (under least s)
         (λ y. rw y)
         (λ n. rw (n, longer least 6 (omega (arith, h)) n, longer least 8 (omega (arith, h)) n)
-        (behind_front none alarmed (λ f. make f q) (mailbox_header_of s (names.type_of (the mailbox_type s))) (coe_header_of (names.service_of (the service s)))))
+        (behind_front none alarmed (λ f. make f q) (map_ok (mailbox_header_of s) (names.type_of (the mailbox_type s))) (map_ok coe_header_of (names.service_of (the service s)))))
 
   pub sdo_read : read_headers s
       ≡ pick (under 12 s) HeadersRead.Undecodable
       (in_reply HeadersRead.Undecodable λ m c.
-      unless_one HeadersRead.Emergency c (sdo_in (front_of m c) (sdo_header_of s (names.command_of (the specifier s)))))
+      unless_one HeadersRead.Emergency c (sdo_in (front_of m c) (map_ok (sdo_header_of s) (names.command_of (the specifier s)))))
   unfolding read_headers read_sdo_header
-  sdo_read = read_behind_front 12 (omega arith) HeadersRead.Undecodable SdoHeaderRead.Undecodable _ HeadersRead.Emergency sdo_in
+  sdo_read = read_behind_front 12 (omega arith) HeadersRead.Undecodable (Err Undecodable) _ HeadersRead.Emergency sdo_in
 
   pub segment_read : read_segment_headers s
       ≡ pick (under 9 s) SegmentHeadersRead.Undecodable
       (in_reply SegmentHeadersRead.Undecodable λ m c.
-      unless_one SegmentHeadersRead.Emergency c (segment_in (front_of m c) (segmented_of s (names.command_of (the specifier s)))))
+      unless_one SegmentHeadersRead.Emergency c (segment_in (front_of m c) (map_ok (segmented_of s) (names.command_of (the specifier s)))))
   unfolding read_segment_headers read_segmented
   segment_read =
-      read_behind_front 9 (omega arith) SegmentHeadersRead.Undecodable SdoHeaderSegmentedRead.Undecodable _ SegmentHeadersRead.Emergency segment_in
+      read_behind_front 9 (omega arith) SegmentHeadersRead.Undecodable (Err Undecodable) _ SegmentHeadersRead.Emergency segment_in
 
   pub information_read : read_information_headers s
       ≡ pick (under 12 s) InformationHeadersRead.Undecodable
-      (in_reply InformationHeadersRead.Undecodable λ m c. information_in m c (sdo_info_of s (names.operation_of (the operation s))))
+      (in_reply InformationHeadersRead.Undecodable λ m c. information_in m c (map_ok (sdo_info_of s) (names.operation_of (the operation s))))
   unfolding read_information_headers read_sdo_info
-  information_read = read_in_turn 12 (omega arith) InformationHeadersRead.Undecodable SdoInfoHeaderRead.Undecodable _ information_in (λ m c. refl)
+  information_read = read_in_turn 12 (omega arith) InformationHeadersRead.Undecodable (Err Undecodable) _ information_in (λ m c. refl)
 
   -- "Under 12 bytes, or an unlisted type, service ..": of any least length, and whatever is made of the first two headers
   module _ (least : ℕ) {H K : Type 0} (on : H → (K → Verdict) → Verdict) (f : K → Verdict) (none : H) (refused : on none f ≡ Refused 0x20) where
-    abbrev judged : (MailboxHeader → CoeHeader → H) → ListedType → ListedService → Verdict
+    abbrev judged : (MailboxHeader → CoeHeader → H) → Result MailboxType Refusal → Result CoeService Refusal → Verdict
     judged make a b = on (in_turn none make a b) f
 
     on_pick : (b : Bool) (h : H) → on (pick b none h) f ≡ pick b (Refused 0x20) (on h f)
@@ -188,7 +185,7 @@ module _ (s : List ℕ) where
 
     decoded : (make : MailboxHeader → CoeHeader → H) {x : Option Finding}
         → ((t : MailboxType) (v : CoeService) → names.type_number t ≡ the mailbox_type s → names.service_number v ≡ the service s
-        → Tells s (judged make (ListedType.Listed t) (ListedService.Listed v)) x)
+        → Tells s (judged make (Ok t) (Ok v)) x)
         → Tells s
         (on (pick (under least s) none (in_reply none make)) f)
         (pick (under least s) (some (refuse 0x20))
@@ -199,24 +196,24 @@ module _ (s : List ℕ) where
         rw (on_pick (under least s))
         (line s (under least s) (Refused 0x20) _
         (listed s (type_look (the mailbox_type s)) (λ a. judged make a (names.service_of (the service s))) refused λ t et.
-        listed s (service_look (the service s)) (judged make (ListedType.Listed t)) refused λ v ev.
+        listed s (service_look (the service s)) (judged make (Ok t)) refused λ v ev.
         p t v et ev))
 
     -- a third header that is looked up in a list of its own
     third : {A R : Type 0} {number : A → ℕ} {found : A → R} {missing q : R} {n : ℕ} {among : Bool} → Look number found missing n q among
         → (make : MailboxHeader → CoeHeader → R → H) → ((m : MailboxHeader) (c : CoeHeader) → make m c missing ≡ none)
         → (t : MailboxType) (v : CoeService) {x : Option Finding}
-        → ((a : A) → number a ≡ n → Tells s (judged (λ m c. make m c (found a)) (ListedType.Listed t) (ListedService.Listed v)) x)
-        → Tells s (judged (λ m c. make m c q) (ListedType.Listed t) (ListedService.Listed v)) (pick (not among) (some (refuse 0x20)) x)
+        → ((a : A) → number a ≡ n → Tells s (judged (λ m c. make m c (found a)) (Ok t) (Ok v)) x)
+        → Tells s (judged (λ m c. make m c q) (Ok t) (Ok v)) (pick (not among) (some (refuse 0x20)) x)
     third l make no_third t v p =
-        listed s l (λ r. judged (λ m c. make m c r) (ListedType.Listed t) (ListedService.Listed v)) (ap (λ h. on h f) (no_third _ _) ∙ refused) p
+        listed s l (λ r. judged (λ m c. make m c r) (Ok t) (Ok v)) (ap (λ h. on h f) (no_third _ _) ∙ refused) p
 
     -- ".. or operation"
-    pub information_decoded : (make : MailboxHeader → CoeHeader → ListedOpCode → H)
-        → ((m : MailboxHeader) (c : CoeHeader) → make m c ListedOpCode.Unlisted ≡ none)
+    pub information_decoded : (make : MailboxHeader → CoeHeader → Result SdoInfoOpCode Refusal → H)
+        → ((m : MailboxHeader) (c : CoeHeader) → make m c (Err Undecodable) ≡ none)
         → {x : Option Finding}
         → ((t : MailboxType) (v : CoeService) (o : SdoInfoOpCode) → names.operation_number o ≡ the operation s
-        → Tells s (judged (λ m c. make m c (ListedOpCode.Listed o)) (ListedType.Listed t) (ListedService.Listed v)) x)
+        → Tells s (judged (λ m c. make m c (Ok o)) (Ok t) (Ok v)) x)
         → Tells s
         (on (pick (under least s) none (in_reply none λ m c. make m c (names.operation_of (the operation s)))) f)
         (pick (under least s) (some (refuse 0x20))
@@ -229,10 +226,10 @@ module _ (s : List ℕ) where
 
     -- ".. or specifier", unless the service is 1: then an emergency, and byte 8 is not judged
     pub sdo_decoded : (alarmed : H) → on alarmed f ≡ emergency_in s
-        → (make : MailboxHeader → CoeHeader → ListedCommand → H) → ((m : MailboxHeader) (c : CoeHeader) → make m c ListedCommand.Unlisted ≡ none)
+        → (make : MailboxHeader → CoeHeader → Result CoeCommand Refusal → H) → ((m : MailboxHeader) (c : CoeHeader) → make m c (Err Undecodable) ≡ none)
         → {x : Option Finding}
         → ((t : MailboxType) (v : CoeService) (k : CoeCommand) → names.type_number t ≡ the mailbox_type s → names.command_number k ≡ the specifier s
-        → Tells s (judged (λ m c. make m c (ListedCommand.Listed k)) (ListedType.Listed t) (ListedService.Listed v)) x)
+        → Tells s (judged (λ m c. make m c (Ok k)) (Ok t) (Ok v)) x)
         → Tells s
         (on (pick (under least s) none (in_reply none λ m c. unless_one alarmed c (make m c (names.command_of (the specifier s))))) f)
         (pick (under least s) (some (refuse 0x20))

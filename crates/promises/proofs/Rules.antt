@@ -8,17 +8,15 @@ use native.Mathlib.Omega.{arith}
 use borrow.Author.Tests.{eqb-true, eqb-false, ltb-true, ltb-false, lt-ltb, le-ltb}
 use lib.Dec.{ltb, leb, eqb}
 use lib.ListN.{length}
-use Rattle.wire.specs.Words.{pick, both, first_of}
+use Rattle.std.specs.Prelude.{Ok}
+use Rattle.wire.specs.Words.{pick, both, first_of, map_ok}
 use Rattle.wire.proofs.Cases.{by}
 use Rattle.mailbox.specs.Fields.{the, length_field, mailbox_type, expedited, size, specifier, index, sub_index, last_segment, unused_count, operation, incomplete}
 use Rattle.mailbox.specs.Numbers.{command_number}
 use Rattle.mailbox.specs.Headers.{sdo_header_of, segmented_of, sdo_info_of}
 use Rattle.mailbox.specs.declared.numbers.MailboxType.{MailboxType}
-use Rattle.mailbox.specs.declared.numbers.ListedType.TheVariants as ListedType
 use Rattle.mailbox.specs.declared.numbers.CoeService.{CoeService}
 use Rattle.mailbox.specs.declared.numbers.CoeCommand.{CoeCommand}
-use Rattle.mailbox.specs.declared.numbers.ListedService.TheVariants as ListedService
-use Rattle.mailbox.specs.declared.numbers.ListedCommand.TheVariants as ListedCommand
 use Rattle.judge.specs.Answers.{answer_of}
 use Rattle.judge.specs.Headers.{wrong_type, wrong_address}
 use Rattle.judge.specs.Alarm.{abort_in}
@@ -91,7 +89,7 @@ module _ (s : List ℕ) where
     reply_told : ((t : MailboxType) (v : CoeService) (k : CoeCommand)
         → Tells s
         (on_headers s
-        (in_turn s HeadersRead.Undecodable (λ m c. sdo_in (front_of m c) (sdo_header_of s (ListedCommand.Listed k))) (ListedType.Listed t) (ListedService.Listed v))
+        (in_turn s HeadersRead.Undecodable (λ m c. sdo_in (front_of m c) (map_ok (sdo_header_of s) (Ok k))) (Ok t) (Ok v))
         f)
         (first_of kind))
         → Tells s (reply_to i b s f) (first_of (sdo 12 s ++ addressed i b s ++ kind))
@@ -99,7 +97,7 @@ module _ (s : List ℕ) where
     reply_told p =
         rw (sdo_read s)
         (sdo_decoded s 12 (on_headers s) _ HeadersRead.Undecodable refl HeadersRead.Emergency refl
-        (λ m c k. sdo_in (front_of m c) (sdo_header_of s k)) (λ m c. refl)
+        (λ m c k. sdo_in (front_of m c) (map_ok (sdo_header_of s) k)) (λ m c. refl)
         λ t v k et ek.
         abort_lines k ek _ _
         (rw et
@@ -145,7 +143,7 @@ module _ (s : List ℕ) where
   segment_told earlier n =
       rw (segment_read s)
       (sdo_decoded s 9 (on_segment_headers s) _ SegmentHeadersRead.Undecodable refl SegmentHeadersRead.Emergency refl
-      (λ m c k. segment_in (front_of m c) (segmented_of s k)) (λ m c. refl)
+      (λ m c k. segment_in (front_of m c) (map_ok (segmented_of s) k)) (λ m c. refl)
       λ t v k et ek.
       abort_lines k ek _ _
       (rw (et, chunk_length_lem (the length_field s) (the unused_count s))
@@ -169,7 +167,7 @@ module _ (s : List ℕ) where
   information_told begun earlier n =
       let k = the length_field s - 8 in
       rw (information_read s)
-      (information_decoded s 12 on_information_headers _ InformationHeadersRead.Undecodable refl (λ m c o. information_in m c (sdo_info_of s o))
+      (information_decoded s 12 on_information_headers _ InformationHeadersRead.Undecodable refl (λ m c o. information_in m c (map_ok (sdo_info_of s) o))
       (λ m c. refl) λ t v o eo.
       rw (eo, other_way (eqb (the operation s) 2), fragment_place begun)
       (line s (not (eqb (the operation s) 2)) _ _

@@ -1,22 +1,19 @@
 -- The names that the standard's numbers have, a second time, by number: document 01's "Listed numbers" and "thirty codes and `Unknown`", with
 -- the names of the Rust. Assumes nothing.
-use Rattle.std.specs.Prelude.{◌≡◌, false, List, [], ◌∷◌, map, ℕ, ◌%◌, ◌<◌, length, get_or}
+use Rattle.std.specs.Prelude.{◌≡◌, false, List, [], ◌∷◌, map, ℕ, ◌%◌, ◌<◌, length, get_or, Ok, Err}
+use Rattle.wire.specs.declared.refusal.Refusal.TheVariants.{Undecodable}
 use Rattle.mailbox.specs.Numbers.{priority_number, priority_of, type_number, type_of, service_number, service_of, command_number, command_of, operation_number, operation_of}
 use Rattle.mailbox.specs.AbortCodes.{abort_rows, abort_number, abort_of}
 use Rattle.mailbox.specs.declared.numbers.Priority.{Priority}
 use Rattle.mailbox.specs.declared.numbers.Priority.TheVariants.{Lowest, Low, High, Highest}
 use Rattle.mailbox.specs.declared.numbers.MailboxType.{MailboxType}
-use Rattle.mailbox.specs.declared.numbers.MailboxType.TheVariants.{Err, Aoe, Eoe, Coe, Foe, Soe, VendorSpecific}
-use Rattle.mailbox.specs.declared.numbers.ListedType.TheVariants as ListedType
+use Rattle.mailbox.specs.declared.numbers.MailboxType.TheVariants.{Aoe, Eoe, Coe, Foe, Soe, VendorSpecific}
 use Rattle.mailbox.specs.declared.numbers.CoeService.{CoeService}
 use Rattle.mailbox.specs.declared.numbers.CoeService.TheVariants.{Emergency, SdoRequest, SdoResponse, TxPdo, RxPdo, TxPdoRemoteRequest, RxPdoRemoteRequest, SdoInformation}
-use Rattle.mailbox.specs.declared.numbers.ListedService.TheVariants as ListedService
 use Rattle.mailbox.specs.declared.numbers.CoeCommand.{CoeCommand}
 use Rattle.mailbox.specs.declared.numbers.CoeCommand.TheVariants.{Segment, Download, Upload, UploadSegment, Abort}
-use Rattle.mailbox.specs.declared.numbers.ListedCommand.TheVariants as ListedCommand
 use Rattle.mailbox.specs.declared.numbers.SdoInfoOpCode.{SdoInfoOpCode}
 use Rattle.mailbox.specs.declared.numbers.SdoInfoOpCode.TheVariants.{GetObjectDescriptionListRequest, GetObjectDescriptionListResponse, GetObjectDescriptionRequest, GetObjectDescriptionResponse, GetEntryDescriptionRequest, GetEntryDescriptionResponse, SdoInfoErrorRequest}
-use Rattle.mailbox.specs.declared.numbers.ListedOpCode.TheVariants as ListedOpCode
 use Rattle.mailbox.specs.declared.abort_code.CoeAbortCode.{CoeAbortCode}
 use Rattle.mailbox.specs.declared.abort_code.CoeAbortCode.TheVariants.{ToggleBit, SdoTimeout, InvalidCommand, OutOfMemory, UnsupportedAccess, WriteOnlyRead, ReadOnlyWrite, IndexOnly, NoCompleteAccess, ObjectTooLarge, DownloadBlocked, NotFound, PdoMappingFailed, PdoTooSmall, Incompatible, Internal, HardwareFailure, DataLengthMismatch, DataTooLong, DataTooShort, SubIndexNotFound, ValueOutOfRange, ValueTooLarge, ValueTooSmall, MaxMin, General, TransferFailed, TransferFailedLocal, InvalidState, NoObjectDictionary, Unknown}
 use Rattle.judge.specs.Answers.{one_of}
@@ -28,7 +25,7 @@ priorities = (0, Lowest) ∷ (1, Low) ∷ (2, High) ∷ (3, Highest) ∷ []
 
 -- "types 0-5 and 15"
 abbrev pub types : List (ℕ × MailboxType)
-types = (0, Err) ∷ (1, Aoe) ∷ (2, Eoe) ∷ (3, Coe) ∷ (4, Foe) ∷ (5, Soe) ∷ (15, VendorSpecific) ∷ []
+types = (0, MailboxType.Err) ∷ (1, Aoe) ∷ (2, Eoe) ∷ (3, Coe) ∷ (4, Foe) ∷ (5, Soe) ∷ (15, VendorSpecific) ∷ []
 
 -- "services 1-8"
 abbrev pub services : List (ℕ × CoeService)
@@ -98,10 +95,10 @@ pub record Named {A R : Type 0} (table : List (ℕ × A)) (number : A → ℕ) (
 pub record NamedAsListed : Type 0 where
   -- the field is two bits wide, so that every number in it has a priority
   pub priority : Named priorities priority_number priority_of (λ p. p) (λ n. priority_of (n % 4))
-  pub type : Named types type_number type_of ListedType.Listed (λ n. ListedType.Unlisted)
-  pub service : Named services service_number service_of ListedService.Listed (λ n. ListedService.Unlisted)
-  pub specifier : Named specifiers command_number command_of ListedCommand.Listed (λ n. ListedCommand.Unlisted)
-  pub operation : Named operations operation_number operation_of ListedOpCode.Listed (λ n. ListedOpCode.Unlisted)
+  pub type : Named types type_number type_of Ok (λ n. Err Undecodable)
+  pub service : Named services service_number service_of Ok (λ n. Err Undecodable)
+  pub specifier : Named specifiers command_number command_of Ok (λ n. Err Undecodable)
+  pub operation : Named operations operation_number operation_of Ok (λ n. Err Undecodable)
   -- "thirty codes and `Unknown`"; "one ordered list, looked up by its rule. Each code's answer stays, and `Unknown` keeps its number"
   pub abort_code : Named abort_codes abort_number abort_of (λ a. a) Unknown
   pub thirty : length abort_codes ≡ 30

@@ -7,14 +7,17 @@ use Prim.Native.Nat.{ℕ, ◌+◌, ◌-◌, ◌≤◌}
 use borrow.Author.Tests.{eqb-true}
 use lib.Dec.{eqb, ltb}
 use lib.ListN.{length}
-use Rattle.wire.specs.Words.{pick, either, first_of}
+use Rattle.std.specs.Prelude.{Result, Ok, Err}
+use Rattle.wire.specs.declared.refusal.Refusal.{Refusal}
+use Rattle.wire.specs.declared.refusal.Refusal.TheVariants.{Undecodable}
+use Rattle.wire.specs.Words.{pick, either, first_of, map_ok}
 use Rattle.wire.proofs.Cases.{by, either_true, either_false}
 use Rattle.mailbox.specs.Fields.{the, mailbox_type, service, operation}
 use Rattle.mailbox.specs.Numbers as names
 use Rattle.mailbox.specs.Headers.{sdo_info_of}
-use Rattle.mailbox.specs.declared.numbers.ListedType.{ListedType}
-use Rattle.mailbox.specs.declared.numbers.ListedService.{ListedService}
-use Rattle.mailbox.specs.declared.numbers.ListedOpCode.{ListedOpCode}
+use Rattle.mailbox.specs.declared.numbers.MailboxType.{MailboxType}
+use Rattle.mailbox.specs.declared.numbers.CoeService.{CoeService}
+use Rattle.mailbox.specs.declared.numbers.SdoInfoOpCode.{SdoInfoOpCode}
 use Rattle.judge.specs.Answers.{answer_of, one_of}
 use Rattle.judge.specs.Storage.{stored}
 use Rattle.judge.specs.Download.{judge_download}
@@ -85,14 +88,14 @@ module _ (kind : ℕ) (begun : Bool) (earlier n : ℕ) (s : List ℕ) where
   abbrev judged_as : InformationHeaders → Verdict
   judged_as h = pick (eqb (names.operation_number h.information.op_code) 2) (fragment_of (length s) h (fragment_at begun) earlier n) ReplyDue
 
-  decoded : (a : ListedType) (b : ListedService) {q : ListedOpCode} {among : Bool}
-      → Look names.operation_number ListedOpCode.Listed ListedOpCode.Unlisted (the operation s) q among
+  decoded : (a : Result MailboxType Refusal) (b : Result CoeService Refusal) {q : Result SdoInfoOpCode Refusal} {among : Bool}
+      → Look names.operation_number Ok (Err Undecodable) (the operation s) q among
       → Told kind s
-      (on_information_headers (in_turn s InformationHeadersRead.Undecodable (λ m c. information_in m c (sdo_info_of s q)) a b) judged_as)
-  decoded ListedType.Unlisted b l = refused
-  decoded (ListedType.Listed t) ListedService.Unlisted l = refused
-  decoded (ListedType.Listed t) (ListedService.Listed v) (missing e m) = rw e refused
-  decoded (ListedType.Listed t) (ListedService.Listed v) (present o k e m) =
+      (on_information_headers (in_turn s InformationHeadersRead.Undecodable (λ m c. information_in m c (map_ok (sdo_info_of s) q)) a b) judged_as)
+  decoded (Err r) b l = refused
+  decoded (Ok t) (Err r) l = refused
+  decoded (Ok t) (Ok v) (missing e m) = rw e refused
+  decoded (Ok t) (Ok v) (present o k e m) =
       rw (e, k) (by (eqb (the operation s) 2) (λ y. rw y (fragment y _)) (λ x. rw x (due x)))
 
   list_told : Told kind s (judge_list begun earlier n s)

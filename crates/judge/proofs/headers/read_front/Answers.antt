@@ -16,14 +16,14 @@ returns-in_default c =
 pub returns-in_default-unpack : goal.returns-in_default-unpack
 unfolding read_front
 returns-in_default-unpack c =
-    simp (le-ltb _ _ c.if-s-least.false, ← c.unpack.ensures, c.in-Header.is, ← c.unpack-2.ensures, c.in_default-unpack.is)
+    simp (le-ltb _ _ c.if-s-least.false, ← c.unpack.ensures, c.in-Ok.is, ← c.unpack-2.ensures, c.in_default-unpack.is)
 
-pub returns-then-number-eq1 : goal.returns-then-number-eq1
+pub returns-then-from-eq1 : goal.returns-then-from-eq1
 unfolding read_front
-returns-then-number-eq1 c =
-    simp (le-ltb _ _ c.if-s-least.false, ← c.unpack.ensures, c.in-Header.is, ← c.unpack-2.ensures, c.in-Header-unpack.is, ← c.number.ensures, eq-eqb _ _ c.if-number-eq1.true)
+returns-then-from-eq1 c =
+    simp (le-ltb _ _ c.if-s-least.false, ← c.unpack.ensures, c.in-Ok.is, ← c.unpack-2.ensures, c.in-Ok-unpack.is, ← c.from.ensures, eq-eqb _ _ c.if-from-eq1.true)
 
 pub returns : goal.returns
 unfolding read_front
 returns c =
-    simp (le-ltb _ _ c.if-s-least.false, ← c.unpack.ensures, c.in-Header.is, ← c.unpack-2.ensures, c.in-Header-unpack.is, ← c.number.ensures, ne_eqb _ _ c.if-number-eq1.false)
+    simp (le-ltb _ _ c.if-s-least.false, ← c.unpack.ensures, c.in-Ok.is, ← c.unpack-2.ensures, c.in-Ok-unpack.is, ← c.from.ensures, ne_eqb _ _ c.if-from-eq1.false)

@@ -10,14 +10,14 @@ returns-in_default c =
 pub returns-in_default-unpack : goal.returns-in_default-unpack
 unfolding read_information_headers
 returns-in_default-unpack c =
-    simp (← c.unpack.ensures, c.in-Header.is, ← c.unpack-2.ensures, c.in_default-unpack.is)
+    simp (← c.unpack.ensures, c.in-Ok.is, ← c.unpack-2.ensures, c.in_default-unpack.is)
 
 pub returns-in_default-unpack-2 : goal.returns-in_default-unpack-2
 unfolding read_information_headers
 returns-in_default-unpack-2 c =
-    simp (← c.unpack.ensures, c.in-Header.is, ← c.unpack-2.ensures, c.in-Header-unpack.is, ← c.unpack-3.ensures, c.in_default-unpack-2.is)
+    simp (← c.unpack.ensures, c.in-Ok.is, ← c.unpack-2.ensures, c.in-Ok-unpack.is, ← c.unpack-3.ensures, c.in_default-unpack-2.is)
 
 pub returns : goal.returns
 unfolding read_information_headers
 returns c =
-    simp (← c.unpack.ensures, c.in-Header.is, ← c.unpack-2.ensures, c.in-Header-unpack.is, ← c.unpack-3.ensures, c.in-Header-unpack-2.is)
+    simp (← c.unpack.ensures, c.in-Ok.is, ← c.unpack-2.ensures, c.in-Ok-unpack.is, ← c.unpack-3.ensures, c.in-Ok-unpack-2.is)

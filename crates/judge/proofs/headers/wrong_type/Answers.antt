@@ -5,4 +5,4 @@ use Rattle.judge.proofs.headers.wrong_type.Goals as goal
 pub returns : goal.returns
 unfolding wrong_type
 returns c =
-    simp (← c.number.ensures)
+    simp (← c.from.ensures)

@@ -8,12 +8,12 @@ unfolding judge_list
 returns-in_default c =
     simp (← c.read_information_headers.ensures, c.in_default.is)
 
-pub returns-then-number-eq2 : goal.returns-then-number-eq2
+pub returns-then-from-eq2 : goal.returns-then-from-eq2
 unfolding judge_list
-returns-then-number-eq2 c =
-    simp (← c.read_information_headers.ensures, c.in-Headers.is, ← c.number.ensures, eq-eqb _ _ c.if-number-eq2.true, ← c.fragment_at.ensures, ← c.fragment.ensures)
+returns-then-from-eq2 c =
+    simp (← c.read_information_headers.ensures, c.in-Headers.is, ← c.from.ensures, eq-eqb _ _ c.if-from-eq2.true, ← c.fragment_at.ensures, ← c.fragment.ensures)
 
 pub returns : goal.returns
 unfolding judge_list
 returns c =
-    simp (← c.read_information_headers.ensures, c.in-Headers.is, ← c.number.ensures, ne_eqb _ _ c.if-number-eq2.false)
+    simp (← c.read_information_headers.ensures, c.in-Headers.is, ← c.from.ensures, ne_eqb _ _ c.if-from-eq2.false)

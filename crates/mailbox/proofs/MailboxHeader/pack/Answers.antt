@@ -9,4 +9,4 @@ pub returns : goal.returns
 unfolding mailbox_header_bytes
 returns c =
     let a = c.args in
-    mailbox_bytes a.self.length c.number.result c.number-2.result a.self.counter (search rules) ∙ cc
+    mailbox_bytes a.self.length c.from.result c.from-2.result a.self.counter (search rules) ∙ cc

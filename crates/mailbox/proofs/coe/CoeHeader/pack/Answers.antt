@@ -7,4 +7,4 @@ use Rattle.mailbox.proofs.coe.CoeHeader.pack.Goals as goal
 pub returns : goal.returns
 unfolding coe_header_bytes
 returns c =
-    coe_bytes c.number.result ∙ cc
+    coe_bytes c.from.result ∙ cc

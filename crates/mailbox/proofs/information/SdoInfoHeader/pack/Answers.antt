@@ -8,4 +8,4 @@ use Rattle.mailbox.proofs.information.SdoInfoHeader.pack.Goals as goal
 pub returns : goal.returns
 unfolding sdo_info_bytes
 returns c =
-    info_bytes c.number.result c.bit_of.result c.args.self.fragments_left (search rules) (search rules) ∙ cc
+    info_bytes c.from.result c.bit_of.result c.args.self.fragments_left (search rules) (search rules) ∙ cc

@@ -10,6 +10,6 @@ unfolding sdo_header_bytes
 returns c =
     let a = c.args.self in
     let known = c.struct_known-3-1.given.1.1.1.1.1 in
-    sdo_bytes c.bit_of.result c.bit_of-2.result a.size c.bit_of-3.result c.number.result a.index a.sub_index
+    sdo_bytes c.bit_of.result c.bit_of-2.result a.size c.bit_of-3.result c.from.result a.index a.sub_index
     (search rules) (search rules) (search rules) known.0.fits known.1.0.fits
     ∙ cc

@@ -8,6 +8,6 @@ use Rattle.mailbox.proofs.segment.SdoHeaderSegmented.pack.Goals as goal
 pub returns : goal.returns
 unfolding segmented_bytes
 returns c =
-    segmented_bytes_lem c.bit_of.result c.args.self.segment_data_size c.bit_of-2.result c.number.result
+    segmented_bytes_lem c.bit_of.result c.args.self.segment_data_size c.bit_of-2.result c.from.result
     (search rules) (search rules)
     ∙ cc
