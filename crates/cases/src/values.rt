@@ -1,106 +1,63 @@
 // The reads of a finished payload.
-use reads::list::ItemRead;
-use reads::quantities::QuantitiesRead;
-use reads::typed::{SignedRead, UnsignedRead};
-use reads::whole::ListRead;
+use reads::list::item_at;
+use reads::quantities::read_quantities;
+use reads::typed::read;
+use reads::whole::read_list;
 use std::io;
+use wire::refusal::Refusal;
 
-// The number of a read, and the value beside it.
-fn valued(rt: &impl Print, number: u8, value: u64, width: usize) -> io::Result<()> {
+// The number of a read, and the value beside it: 0 where it was refused.
+fn valued(rt: &impl Print, read: Result<u64, Refusal>, width: usize) -> io::Result<()> {
+    let (number, value) = match read {
+        Ok(value) => (0, value),
+        Err(refusal) => (refusal.number(), 0),
+    };
     show::number(rt, number as u64, 2)?;
     show::next(rt, value, width)
 }
 
-fn unsigned(rt: &impl Print, read: UnsignedRead) -> io::Result<()> {
-    match read {
-        UnsignedRead::Value(v) => valued(rt, 0, v as u64, 8),
-        UnsignedRead::Refused(n) => valued(rt, n, 0, 8),
-    }
-}
-
-// The 32 bits of a number, made without a step that leaves its type.
-fn bits(v: i32) -> u32 {
-    if v < 0 {
-        0xffff_ffff - ((-1 - v) as u32)
-    } else {
-        v as u32
-    }
-}
-
-fn signed(rt: &impl Print, read: SignedRead) -> io::Result<()> {
-    match read {
-        SignedRead::Value(v) => valued(rt, 0, bits(v) as u64, 8),
-        SignedRead::Refused(n) => valued(rt, n, 0, 8),
+// A signed value is printed as its 32 bits.
+fn bits(payload: &[u8], kind: u8) -> Result<u32, Refusal> {
+    match kind {
+        0x01 => read::<u8>(payload).map(u32::from),
+        0x02 => read::<u16>(payload).map(u32::from),
+        0x04 => read::<u32>(payload),
+        0x81 => read::<i8>(payload).map(|value| i32::from(value).cast_unsigned()),
+        0x82 => read::<i16>(payload).map(|value| i32::from(value).cast_unsigned()),
+        _ => read::<i32>(payload).map(|value| value.cast_unsigned()),
     }
 }
 
 pub(crate) fn typed(rt: &impl Print, case: &[u8]) -> io::Result<()> {
     if 2 <= case.len() {
-        let payload = &case[2..];
-        match wire::byte(case, 1) {
-            0x01 => unsigned(rt, reads::typed::read_u8(payload))?,
-            0x02 => unsigned(rt, reads::typed::read_u16(payload))?,
-            0x04 => unsigned(rt, reads::typed::read_u32(payload))?,
-            0x81 => signed(rt, reads::typed::read_i8(payload))?,
-            0x82 => signed(rt, reads::typed::read_i16(payload))?,
-            _ => signed(rt, reads::typed::read_i32(payload))?,
-        }
+        valued(rt, bits(&case[2..], case[1]).map(u64::from), 8)?;
     }
     Ok(())
 }
 
-fn position(case: &[u8]) -> u64 {
-    let low = wire::long_at(case, 1) as u64;
-    let high = wire::long_at(case, 5) as u64;
-    low + 0x1_0000_0000 * high
-}
-
 pub(crate) fn item(rt: &impl Print, case: &[u8]) -> io::Result<()> {
     if 9 <= case.len() {
-        let at = position(case);
-        match reads::list::item_at(&case[9..], at as usize) {
-            ItemRead::Item { index, next } => {
-                valued(rt, 0, index as u64, 4)?;
-                show::next(rt, next as u64, 16)?;
-            }
-            ItemRead::Refused(n) => {
-                valued(rt, n, 0, 4)?;
-                show::next(rt, at, 16)?;
-            }
-        }
+        let at = wire::eight_at(case, 1);
+        let read = item_at(&case[9..], at as usize);
+        valued(rt, read.map(|item| u64::from(item.index)), 4)?;
+        show::next(rt, read.map_or(at, |item| item.next as u64), 16)?;
     }
     Ok(())
 }
 
 pub(crate) fn quantities(rt: &impl Print, case: &[u8]) -> io::Result<()> {
     if 1 <= case.len() {
-        match reads::quantities::read_quantities(&case[1..]) {
-            QuantitiesRead::Counts(c) => {
-                valued(rt, 0, c.all as u64, 4)?;
-                show::next(rt, c.rx_pdo_mappable as u64, 4)?;
-                show::next(rt, c.tx_pdo_mappable as u64, 4)?;
-                show::next(rt, c.stored_for_device_replacement as u64, 4)?;
-                show::next(rt, c.startup_parameters as u64, 4)?;
-            }
-            QuantitiesRead::Refused(n) => {
-                valued(rt, n, 0, 4)?;
-                show::words(rt, b" 0000 0000 0000 0000")?;
-            }
+        let read = read_quantities(&case[1..]);
+        valued(rt, read.map(|counts| u64::from(counts.all)), 4)?;
+        let counts = read.unwrap_or_default();
+        for count in [
+            counts.rx_pdo_mappable,
+            counts.tx_pdo_mappable,
+            counts.stored_for_device_replacement,
+            counts.startup_parameters,
+        ] {
+            show::next(rt, u64::from(count), 4)?;
         }
-    }
-    Ok(())
-}
-
-fn count(rt: &impl Print, read: ListRead) -> io::Result<()> {
-    match read {
-        ListRead::Items(n) => valued(rt, 0, n as u64, 4),
-        ListRead::Refused(n) => valued(rt, n, 0, 4),
-    }
-}
-
-fn indices(rt: &impl Print, items: &[u16]) -> io::Result<()> {
-    for item in items {
-        show::next(rt, *item as u64, 4)?;
     }
     Ok(())
 }
@@ -108,16 +65,16 @@ fn indices(rt: &impl Print, items: &[u16]) -> io::Result<()> {
 // All places are printed, with those that were not lent.
 fn list_into(rt: &impl Print, case: &[u8], items: &mut [u16]) -> io::Result<()> {
     let room = wire::byte(case, 1) as usize;
-    if 2 <= case.len() {
-        if room <= items.len() {
-            count(rt, reads::whole::read_list(&case[2..], &mut items[0..room]))?;
-            indices(rt, items)?;
+    if 2 <= case.len() && room <= items.len() {
+        let read = read_list(&case[2..], &mut items[..room]);
+        valued(rt, read.map(|count| count as u64), 4)?;
+        for item in items {
+            show::next(rt, u64::from(*item), 4)?;
         }
     }
     Ok(())
 }
 
 pub(crate) fn list(rt: &impl Print, case: &[u8]) -> io::Result<()> {
-    let mut items = [0xa5a5; 8];
-    list_into(rt, case, &mut items)
+    list_into(rt, case, &mut [0xa5a5; 8])
 }

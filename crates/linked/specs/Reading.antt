@@ -1,32 +1,27 @@
 -- The reads' answers as structs of numbers: 00 and what was read, or the refusal's number and 0 where nothing was read. Document 01: "Where
 -- an answer is an enum, a definition gives this paper's number and values for each of its cases." Assumes nothing.
-use Rattle.std.specs.Prelude.{ℕ, pos}
-use Rattle.reads.specs.declared.typed.UnsignedRead.{UnsignedRead}
-use Rattle.reads.specs.declared.typed.UnsignedRead.TheVariants as unsigned
-use Rattle.reads.specs.declared.typed.SignedRead.{SignedRead}
-use Rattle.reads.specs.declared.typed.SignedRead.TheVariants as signed
-use Rattle.reads.specs.declared.list.ItemRead.{ItemRead}
-use Rattle.reads.specs.declared.list.ItemRead.TheVariants as item
+use Rattle.std.specs.Prelude.{ℕ, ℤ, pos, Result, Ok, Err}
+use Rattle.wire.specs.Refusal.{number_of}
+use Rattle.wire.specs.declared.refusal.Refusal.{Refusal}
+use Rattle.reads.specs.declared.list.Item as listed
 use Rattle.reads.specs.declared.quantities.ObjectDescriptionListQueryCounts.{ObjectDescriptionListQueryCounts}
-use Rattle.reads.specs.declared.quantities.QuantitiesRead.{QuantitiesRead}
-use Rattle.reads.specs.declared.quantities.QuantitiesRead.TheVariants as quantities
 use Rattle.linked.specs.declared.reading.Unsigned.{Unsigned}
 use Rattle.linked.specs.declared.reading.Signed.{Signed}
 use Rattle.linked.specs.declared.reading.Item.{Item}
 use Rattle.linked.specs.declared.reading.Quantities.{Quantities}
 
-abbrev pub unsigned_of : UnsignedRead → Unsigned
-unsigned_of (unsigned.Value v) = record { number = 0x00; value = v }
-unsigned_of (unsigned.Refused n) = record { number = n; value = 0 }
+abbrev pub unsigned_of : Result ℕ Refusal → Unsigned
+unsigned_of (Ok v) = record { number = 0x00; value = v }
+unsigned_of (Err r) = record { number = number_of r; value = 0 }
 
-abbrev pub signed_of : SignedRead → Signed
-signed_of (signed.Value v) = record { number = 0x00; value = v }
-signed_of (signed.Refused n) = record { number = n; value = pos 0 }
+abbrev pub signed_of : Result ℤ Refusal → Signed
+signed_of (Ok v) = record { number = 0x00; value = v }
+signed_of (Err r) = record { number = number_of r; value = pos 0 }
 
 -- a refusal leaves the position
-abbrev pub item_of : ℕ → ItemRead → Item
-item_of at (item.Item index next) = record { number = 0x00; index = index; next = next }
-item_of at (item.Refused n) = record { number = n; index = 0; next = at }
+abbrev pub item_of : ℕ → Result listed.Item Refusal → Item
+item_of at (Ok item) = record { number = 0x00; index = item.index; next = item.next }
+item_of at (Err r) = record { number = number_of r; index = 0; next = at }
 
 abbrev pub counts_with : ℕ → ObjectDescriptionListQueryCounts → Quantities
 counts_with n c = record {
@@ -47,6 +42,6 @@ no_counts = record {
   startup_parameters = 0;
 }
 
-abbrev pub quantities_of : QuantitiesRead → Quantities
-quantities_of (quantities.Counts c) = counts_with 0x00 c
-quantities_of (quantities.Refused n) = counts_with n no_counts
+abbrev pub quantities_of : Result ObjectDescriptionListQueryCounts Refusal → Quantities
+quantities_of (Ok c) = counts_with 0x00 c
+quantities_of (Err r) = counts_with (number_of r) no_counts

@@ -3,13 +3,15 @@ ghost use Rattle.std.specs.Prelude.{◌≡◌};
 ghost use Rattle.reads.specs.Typed.{unsigned_read, signed_read};
 ghost use Rattle.reads.specs.List.{item_at};
 ghost use Rattle.reads.specs.Quantities.{quantities_read};
-ghost use Rattle.linked.specs.Reading.{unsigned_of, signed_of, item_of, quantities_of};
+ghost use Rattle.linked.specs.Reading.{unsigned_of, signed_of, item_of, counts_with, quantities_of};
 
-use reads::list::{ItemRead, item_at};
-use reads::quantities::{QuantitiesRead, read_quantities};
-use reads::typed;
-use reads::typed::{SignedRead, UnsignedRead};
+use reads::list::item_at;
+use reads::quantities::{ObjectDescriptionListQueryCounts, read_quantities};
+use reads::typed::read;
+use wire::refusal::Refusal;
 
+// A number that was read, beside 00; where it was refused, 0 beside the refusal's number. Two records, since the signatures of `coe_read_u8`
+// and `coe_read_i8` are C's, and those take no struct with a type parameter.
 #[repr(C)]
 #[derive(Clone, Copy)]
 pub struct Unsigned {
@@ -43,99 +45,109 @@ pub struct Quantities {
     pub startup_parameters: u16,
 }
 
-fn unsigned_of(read: UnsignedRead) -> Unsigned
-    ensures { result ≡ unsigned_of read }
-{
-    match read {
-        UnsignedRead::Value(value) => Unsigned { number: 0, value },
-        UnsignedRead::Refused(number) => Unsigned { number, value: 0 },
+impl From<Result<u32, Refusal>> for Unsigned {
+    ghost from_gives = { λ read r. r ≡ unsigned_of read };
+
+    fn from(read: Result<u32, Refusal>) -> Unsigned {
+        match read {
+            Ok(value) => Unsigned { number: 0, value },
+            Err(refusal) => Unsigned {
+                number: refusal.number(),
+                value: 0,
+            },
+        }
     }
 }
 
-fn signed_of(read: SignedRead) -> Signed
-    ensures { result ≡ signed_of read }
-{
-    match read {
-        SignedRead::Value(value) => Signed { number: 0, value },
-        SignedRead::Refused(number) => Signed { number, value: 0 },
+impl From<Result<i32, Refusal>> for Signed {
+    ghost from_gives = { λ read r. r ≡ signed_of read };
+
+    fn from(read: Result<i32, Refusal>) -> Signed {
+        match read {
+            Ok(value) => Signed { number: 0, value },
+            Err(refusal) => Signed {
+                number: refusal.number(),
+                value: 0,
+            },
+        }
     }
 }
 
 pub fn coe_read_u8(payload: &[u8]) -> Unsigned
     ensures { result ≡ unsigned_of (unsigned_read 1 payload.now) }
 {
-    unsigned_of(typed::read_u8(payload))
+    read::<u8>(payload).map(u32::from).into()
 }
 
 pub fn coe_read_u16(payload: &[u8]) -> Unsigned
     ensures { result ≡ unsigned_of (unsigned_read 2 payload.now) }
 {
-    unsigned_of(typed::read_u16(payload))
+    read::<u16>(payload).map(u32::from).into()
 }
 
 pub fn coe_read_u32(payload: &[u8]) -> Unsigned
     ensures { result ≡ unsigned_of (unsigned_read 4 payload.now) }
 {
-    unsigned_of(typed::read_u32(payload))
+    read::<u32>(payload).into()
 }
 
 pub fn coe_read_i8(payload: &[u8]) -> Signed
     ensures { result ≡ signed_of (signed_read 1 payload.now) }
 {
-    signed_of(typed::read_i8(payload))
+    read::<i8>(payload).map(i32::from).into()
 }
 
 pub fn coe_read_i16(payload: &[u8]) -> Signed
     ensures { result ≡ signed_of (signed_read 2 payload.now) }
 {
-    signed_of(typed::read_i16(payload))
+    read::<i16>(payload).map(i32::from).into()
 }
 
 pub fn coe_read_i32(payload: &[u8]) -> Signed
     ensures { result ≡ signed_of (signed_read 4 payload.now) }
 {
-    signed_of(typed::read_i32(payload))
+    read::<i32>(payload).into()
 }
 
 // A refused item has the index 0, and `next` is `at`.
 pub fn coe_list_item(payload: &[u8], at: usize) -> Item
     ensures { result ≡ item_of at (item_at payload.now at) }
 {
-    let read = item_at(payload, at);
-    match read {
-        ItemRead::Item { index, next } => Item {
+    match item_at(payload, at) {
+        Ok(item) => Item {
             number: 0,
-            index,
-            next,
+            index: item.index,
+            next: item.next,
         },
-        ItemRead::Refused(number) => Item {
-            number,
+        Err(refusal) => Item {
+            number: refusal.number(),
             index: 0,
             next: at,
         },
     }
 }
 
+fn counts_with(number: u8, counts: ObjectDescriptionListQueryCounts) -> Quantities
+    ensures { result ≡ counts_with number counts }
+{
+    Quantities {
+        number,
+        all: counts.all,
+        rx_pdo_mappable: counts.rx_pdo_mappable,
+        tx_pdo_mappable: counts.tx_pdo_mappable,
+        stored_for_device_replacement: counts.stored_for_device_replacement,
+        startup_parameters: counts.startup_parameters,
+    }
+}
+
 pub fn coe_read_quantities(payload: &[u8]) -> Quantities
     ensures { result ≡ quantities_of (quantities_read payload.now) }
 {
-    let read = read_quantities(payload);
-    match read {
-        QuantitiesRead::Counts(counts) => Quantities {
-            number: 0,
-            all: counts.all,
-            rx_pdo_mappable: counts.rx_pdo_mappable,
-            tx_pdo_mappable: counts.tx_pdo_mappable,
-            stored_for_device_replacement: counts.stored_for_device_replacement,
-            startup_parameters: counts.startup_parameters,
-        },
-        QuantitiesRead::Refused(number) => Quantities {
-            number,
-            all: 0,
-            rx_pdo_mappable: 0,
-            tx_pdo_mappable: 0,
-            stored_for_device_replacement: 0,
-            startup_parameters: 0,
-        },
+    match read_quantities(payload) {
+        Ok(counts) => counts_with(0, counts),
+        Err(refusal) => counts_with(
+            refusal.number(),
+            ObjectDescriptionListQueryCounts::default(),
+        ),
     }
 }

@@ -1,5 +1,6 @@
 -- Five counts in ten bytes read back, whatever follows them. Assumes nothing.
 use mathlib.Core.Path.{◌≡◌}
+use Rattle.std.specs.Prelude.{Ok}
 use mathlib.Core.List.{List, ◌++◌}
 use Prim.Native.Nat.{ℕ, ◌≤◌}
 use native.Mathlib.Omega.{arith}
@@ -9,9 +10,8 @@ use Rattle.reads.proofs.WholeList.{word_back}
 use Rattle.reads.specs.Quantities.{quantities_read, in_order}
 use Rattle.reads.specs.List.{in_bytes, AllWords}
 use Rattle.reads.specs.declared.quantities.ObjectDescriptionListQueryCounts.{ObjectDescriptionListQueryCounts}
-use Rattle.reads.specs.declared.quantities.QuantitiesRead.TheVariants.{Counts}
 
-pub counts_back : (c : ObjectDescriptionListQueryCounts) (rest : List ℕ) → AllWords (in_order c) → quantities_read (in_bytes (in_order c) ++ rest) ≡ Counts c
+pub counts_back : (c : ObjectDescriptionListQueryCounts) (rest : List ℕ) → AllWords (in_order c) → quantities_read (in_bytes (in_order c) ++ rest) ≡ Ok c
 unfolding quantities_read
 counts_back c rest w =
     let s : List ℕ = in_bytes (in_order c) ++ rest in

@@ -3,5 +3,6 @@ pub mod Width
 pub mod AnyWidth
 pub mod WholeList
 pub mod Yielded
-pub mod Taking
 pub mod Counts
+pub mod Coming
+pub mod Taking

@@ -32,15 +32,7 @@ signed_bits n (negsuc k) h =
     let back : turned n (turned n k) ≡ k = omega arith in
     signed_high n (turned n k) (omega arith) ∙ ap negsuc back
 
--- bits of n bytes are the bits of the number that they read as
-pub bits_signed : (n x : ℕ) → x < 256 ^ n → bits_of n (signed_of n x) ≡ x
-bits_signed n x h =
-    by (ltb x (half n))
-    (λ e. ap (bits_of n) (signed_low n x (ltb-true _ _ e)))
-    (λ e. let back : turned n (turned n x) ≡ x = omega arith in
-    ap (bits_of n) (signed_high n x (ltb-false _ _ e)) ∙ back)
-
--- and they read as a number that n bytes hold, where there is a byte at all
+-- bits of n bytes read as a number that n bytes hold, where there is a byte at all
 pub signed_held : (n x : ℕ) → x < 256 ^ suc n → Held (suc n) (signed_of (suc n) x)
 signed_held n x h =
     let even : 256 ^ suc n ≡ 256 ^ n * 256 = pow-suc 256 n in

@@ -1,5 +1,6 @@
 -- A reader yields what the plain function reads: the payload's words in order, and then 20. Assumes nothing.
 use mathlib.Core.Path.{◌≡◌, refl, ap, ◌∙◌}
+use Rattle.std.specs.Prelude.{Result, Ok, Err, Some}
 use mathlib.Core.List.{List}
 use native.Mathlib.Omega.{arith}
 use Prim.Native.Nat.{ℕ, zero, suc, ◌*◌, ◌%◌, ◌<◌}
@@ -7,18 +8,18 @@ use borrow.Author.Tests.{eqb-true, eqb-false}
 use lib.ListN.{length}
 use denote.Ref.{Bor}
 use Rattle.wire.proofs.Cases.{by}
-use Rattle.reads.specs.Refusal.{undecodable}
+use Rattle.wire.specs.declared.refusal.Refusal.{Refusal}
+use Rattle.wire.specs.declared.refusal.Refusal.TheVariants.{Undecodable}
 use Rattle.reads.specs.List.{item_at, Listed, going_on, read_from, odd, listed}
 use Rattle.reads.specs.Reader.{at_start, behind, moved_on, yielded, Yields, YieldsAll, OddYieldsNone}
-use Rattle.reads.specs.declared.list.ItemRead.{ItemRead}
-use Rattle.reads.specs.declared.list.ItemRead.TheVariants.{Item, Refused}
+use Rattle.reads.specs.declared.list.Item.{Item}
 use Rattle.reads.specs.declared.reader.ListReader.{ListReader}
 use Rattle.reads.proofs.WholeList.{odd_refused, reads_all}
 
 -- going on needs the rest only behind the item
-going_on_lem : (i : ItemRead) (at : ℕ) (rest : ℕ → Listed) → going_on i (λ _. rest (behind i at)) ≡ going_on i rest
-going_on_lem (Item index next) at rest = refl
-going_on_lem (Refused number) at rest = refl
+going_on_lem : (i : Result Item Refusal) (at : ℕ) (rest : ℕ → Listed) → going_on i (λ _. rest (behind i at)) ≡ going_on i rest
+going_on_lem (Ok item) at rest = refl
+going_on_lem (Err refusal) at rest = refl
 
 pub yields : Yields
 unfolding yielded read_from
@@ -33,11 +34,11 @@ yields_all payload turns even enough = yields turns (at_start payload) ∙ reads
 pub odd_yields_none : OddYieldsNone
 unfolding yielded
 odd_yields_none payload turns h =
-    ap (λ (i : ItemRead). going_on i (λ _. yielded turns (moved_on (at_start payload)))) (odd_refused payload.now (at_start payload).at h)
+    ap (λ (i : Result Item Refusal). going_on i (λ _. yielded turns (moved_on (at_start payload)))) (odd_refused payload.now (at_start payload).at h)
 
 -- both at once: the payload's indices
 pub yields_listed : (payload : Bor (List ℕ)) (turns : ℕ) → length payload.now < 2 * turns
-    → yielded turns (at_start payload) ≡ (listed payload.now, undecodable)
+    → yielded turns (at_start payload) ≡ (listed payload.now, Some Undecodable)
 yields_listed payload zero enough = absurd (omega arith)
 yields_listed payload (suc turns) enough =
     by (odd payload.now)
@@ -46,5 +47,5 @@ yields_listed payload (suc turns) enough =
     rw e (yields_all payload (suc turns) even enough))
 
 -- a refusal leaves the reader where it stands
-pub refused_stays : (r : ListReader) (number : ℕ) → item_at r.payload.now r.at ≡ Refused number → moved_on r ≡ r
-refused_stays r number refused = ap (λ (i : ItemRead). record { payload = r.payload; at = behind i r.at }) refused
+pub refused_stays : (r : ListReader) (refusal : Refusal) → item_at r.payload.now r.at ≡ Err refusal → moved_on r ≡ r
+refused_stays r refusal refused = ap (λ (i : Result Item Refusal). record { payload = r.payload; at = behind i r.at }) refused

@@ -1,17 +1,11 @@
 -- The paper's number for each answer, and the values that it gives. Document 01: "Where an answer is an enum, a definition
 -- gives this paper's number and values for each of its cases." Assumes nothing.
-use Rattle.std.specs.Prelude.{ℕ, List, [], ◌∷◌, map, ℤ, pos}
+use Rattle.std.specs.Prelude.{ℕ, List, [], ◌∷◌, map, ℤ, pos, Result, Ok, Err}
+use Rattle.wire.specs.Refusal.{number_of}
+use Rattle.wire.specs.declared.refusal.Refusal.{Refusal}
 use Rattle.reads.specs.Quantities.{in_order}
-use Rattle.reads.specs.declared.typed.UnsignedRead.{UnsignedRead}
-use Rattle.reads.specs.declared.typed.UnsignedRead.TheVariants as unsigned
-use Rattle.reads.specs.declared.typed.SignedRead.{SignedRead}
-use Rattle.reads.specs.declared.typed.SignedRead.TheVariants as signed
-use Rattle.reads.specs.declared.list.ItemRead.{ItemRead}
-use Rattle.reads.specs.declared.list.ItemRead.TheVariants as item
-use Rattle.reads.specs.declared.whole.ListRead.{ListRead}
-use Rattle.reads.specs.declared.whole.ListRead.TheVariants as list
-use Rattle.reads.specs.declared.quantities.QuantitiesRead.{QuantitiesRead}
-use Rattle.reads.specs.declared.quantities.QuantitiesRead.TheVariants as quantities
+use Rattle.reads.specs.declared.list.Item.{Item}
+use Rattle.reads.specs.declared.quantities.ObjectDescriptionListQueryCounts.{ObjectDescriptionListQueryCounts}
 
 abbrev done : ℕ
 done = 0x00
@@ -20,22 +14,21 @@ done = 0x00
 abbrev pub Valued : Type 0
 Valued = ℕ × List ℤ
 
-abbrev pub of_unsigned : UnsignedRead → Valued
-of_unsigned (unsigned.Value v) = (done, pos v ∷ [])
-of_unsigned (unsigned.Refused number) = (number, [])
+abbrev valued : {A : Type 0} → (A → List ℤ) → Result A Refusal → Valued
+valued values (Ok a) = (done, values a)
+valued values (Err refusal) = (number_of refusal, [])
 
-abbrev pub of_signed : SignedRead → Valued
-of_signed (signed.Value v) = (done, v ∷ [])
-of_signed (signed.Refused number) = (number, [])
+abbrev pub of_unsigned : Result ℕ Refusal → Valued
+of_unsigned = valued (λ v. pos v ∷ [])
 
-abbrev pub of_item : ItemRead → Valued
-of_item (item.Item index next) = (done, pos index ∷ pos next ∷ [])
-of_item (item.Refused number) = (number, [])
+abbrev pub of_signed : Result ℤ Refusal → Valued
+of_signed = valued (λ v. v ∷ [])
 
-abbrev pub of_list : ListRead → Valued
-of_list (list.Items count) = (done, pos count ∷ [])
-of_list (list.Refused number) = (number, [])
+abbrev pub of_item : Result Item Refusal → Valued
+of_item = valued (λ item. pos item.index ∷ pos item.next ∷ [])
 
-abbrev pub of_quantities : QuantitiesRead → Valued
-of_quantities (quantities.Counts c) = (done, map (λ (n : ℕ). pos n) (in_order c))
-of_quantities (quantities.Refused number) = (number, [])
+abbrev pub of_list : Result ℕ Refusal → Valued
+of_list = valued (λ count. pos count ∷ [])
+
+abbrev pub of_quantities : Result ObjectDescriptionListQueryCounts Refusal → Valued
+of_quantities = valued (λ counts. map (λ (n : ℕ). pos n) (in_order counts))

@@ -1,12 +1,11 @@
 -- Payloads as a document writes them, and what reading them gives: the paper's number, and the values. Assumes nothing.
 use Rattle.std.specs.Prelude.{◌≡◌, refl, ℕ, List, [], ◌∷◌, map, ℤ, pos, neg_ℤ, replicate}
 use Rattle.wire.specs.Bytes.{hex}
-use Rattle.wire.specs.Store.{laid}
 use Rattle.reads.specs.Answers.{Valued, of_unsigned, of_signed, of_item, of_list, of_quantities}
-use Rattle.reads.specs.Typed.{unsigned_read, signed_read}
+use Rattle.reads.specs.Typed.{integer_read, unsigned_read, signed_read}
 use Rattle.reads.specs.Signed.{signed_of}
-use Rattle.reads.specs.List.{item_at, listed}
-use Rattle.reads.specs.Whole.{list_read}
+use Rattle.reads.specs.List.{item_at}
+use Rattle.reads.specs.Whole.{list_read, stored}
 use Rattle.reads.specs.Quantities.{quantities_read}
 
 abbrev gives : ℤ → Valued
@@ -19,8 +18,8 @@ abbrev minus : ℕ → ℤ
 minus n = neg_ℤ (pos n)
 
 -- what `items` hold afterwards, of so many that all were 7
-abbrev stored : ℕ → List ℕ → Valued
-stored room payload = (0, map (λ (n : ℕ). pos n) (laid (replicate room 7) 0 (listed payload)))
+abbrev stored_in : ℕ → List ℕ → Valued
+stored_in room payload = (0, map (λ (n : ℕ). pos n) (stored (replicate room 7) payload))
 
 unfoldable pub examples : List (Valued × Valued)
 examples =
@@ -58,11 +57,11 @@ examples =
     ∷ (of_list (list_read (hex 4 0x00101810)), gives (pos 2))
     ∷ (of_list (list_read []), gives (pos 0))
     ∷ (of_list (list_read (hex 5 0x0010181060)), refused)
-    ∷ (stored 2 (hex 4 0x00101810), (0, pos 0x1000 ∷ pos 0x1018 ∷ []))
-    ∷ (stored 3 (hex 4 0x00101810), (0, pos 0x1000 ∷ pos 0x1018 ∷ pos 7 ∷ []))
-    ∷ (stored 1 (hex 4 0x00101810), (0, pos 0x1000 ∷ []))
-    ∷ (stored 0 (hex 4 0x00101810), (0, []))
-    ∷ (stored 2 (hex 5 0x0010181060), (0, pos 7 ∷ pos 7 ∷ []))
+    ∷ (stored_in 2 (hex 4 0x00101810), (0, pos 0x1000 ∷ pos 0x1018 ∷ []))
+    ∷ (stored_in 3 (hex 4 0x00101810), (0, pos 0x1000 ∷ pos 0x1018 ∷ pos 7 ∷ []))
+    ∷ (stored_in 1 (hex 4 0x00101810), (0, pos 0x1000 ∷ []))
+    ∷ (stored_in 0 (hex 4 0x00101810), (0, []))
+    ∷ (stored_in 2 (hex 5 0x0010181060), (0, pos 7 ∷ pos 7 ∷ []))
     -- "Quantities need 10 bytes"
     ∷ (of_quantities (quantities_read (hex 10 0x01000200030004000501)), (0, pos 1 ∷ pos 2 ∷ pos 3 ∷ pos 4 ∷ pos 0x105 ∷ []))
     ∷ (of_quantities (quantities_read (hex 12 0x010002000300040005010600)), (0, pos 1 ∷ pos 2 ∷ pos 3 ∷ pos 4 ∷ pos 0x105 ∷ []))
@@ -70,5 +69,5 @@ examples =
     ∷ []
 
 pub examples_hold : map (λ (e : Valued × Valued). e.0) examples ≡ map (λ (e : Valued × Valued). e.1) examples
-unfolding examples unsigned_read signed_read signed_of item_at quantities_read
+unfolding examples integer_read signed_of item_at quantities_read
 examples_hold = refl

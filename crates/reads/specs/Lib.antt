@@ -1,6 +1,7 @@
 pub mod Refusal
 pub mod Signed
 pub mod Typed
+pub mod Integers
 pub mod List
 pub mod Reader
 pub mod Whole

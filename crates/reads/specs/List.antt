@@ -1,32 +1,29 @@
 -- The object list: one item, and the whole list item by item. Assumes nothing.
-use Rattle.std.specs.Prelude.{ℕ, zero, suc, ◌+◌, ◌-◌, ◌%◌, ◌<◌, Bool, List, [], ◌∷◌, ◌++◌, ltb, eqb, length, get_or}
+use Rattle.std.specs.Prelude.{ℕ, zero, suc, ◌+◌, ◌-◌, ◌%◌, ◌<◌, Bool, List, [], ◌∷◌, ◌++◌, ltb, eqb, length, get_or, Option, None, Some, Result, Ok, Err}
 use Rattle.wire.specs.Bytes.{bytes, value, word_at}
-use Rattle.wire.specs.Words.{pick}
-use Rattle.reads.specs.Refusal.{undecodable}
-use Rattle.reads.specs.declared.list.ItemRead.{ItemRead}
-use Rattle.reads.specs.declared.list.ItemRead.TheVariants.{Item, Refused}
+use Rattle.wire.specs.Words.{pick, either}
+use Rattle.wire.specs.declared.refusal.Refusal.{Refusal}
+use Rattle.reads.specs.Refusal.{read_unless}
+use Rattle.reads.specs.declared.list.Item.{Item}
 
 abbrev pub odd : List ℕ → Bool
 odd s = eqb (length s % 2) 1
 
 -- "an odd payload, or a position with no two bytes left, is 20". The position counts bytes.
-unfoldable pub item_at : List ℕ → ℕ → ItemRead
-item_at s at =
-    pick (odd s) (Refused undecodable)
-    (pick (ltb (length s - at) 2) (Refused undecodable)
-    (Item (word_at s at) (at + 2)))
+unfoldable pub item_at : List ℕ → ℕ → Result Item Refusal
+item_at s at = read_unless (either (odd s) (ltb (length s - at) 2)) (record { index = word_at s at; next = at + 2 })
 
--- The whole list: the indices that reads from a position on give, each going on where the one before said, and the number
--- of the refusal that ends them. 0 says that the turns ran out before a refusal.
+-- The whole list: the indices that reads from a position on give, each going on where the one before said, and the refusal that
+-- ends them. None says that the turns ran out before a refusal.
 abbrev pub Listed : Type 0
-Listed = List ℕ × ℕ
+Listed = List ℕ × Option Refusal
 
-abbrev pub going_on : ItemRead → (ℕ → Listed) → Listed
-going_on (Item index next) rest = (index ∷ (rest next).0, (rest next).1)
-going_on (Refused number) rest = ([], number)
+abbrev pub going_on : Result Item Refusal → (ℕ → Listed) → Listed
+going_on (Ok item) rest = (item.index ∷ (rest item.next).0, (rest item.next).1)
+going_on (Err refusal) rest = ([], Some refusal)
 
 unfoldable pub read_from : ℕ → List ℕ → ℕ → Listed
-read_from zero s at = ([], 0)
+read_from zero s at = ([], None)
 read_from (suc turns) s at = going_on (item_at s at) (read_from turns s)
 
 -- the words of a payload, two bytes each

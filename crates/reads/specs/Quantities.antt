@@ -1,11 +1,9 @@
 -- The quantities: five words, in the order of the Rust's ObjectDescriptionListQueryCounts. Assumes nothing.
-use Rattle.std.specs.Prelude.{ℕ, List, [], ◌∷◌, ltb, length}
+use Rattle.std.specs.Prelude.{ℕ, List, [], ◌∷◌, ltb, length, Result}
 use Rattle.wire.specs.Bytes.{word_at}
-use Rattle.wire.specs.Words.{pick}
-use Rattle.reads.specs.Refusal.{undecodable}
+use Rattle.wire.specs.declared.refusal.Refusal.{Refusal}
+use Rattle.reads.specs.Refusal.{read_unless}
 use Rattle.reads.specs.declared.quantities.ObjectDescriptionListQueryCounts.{ObjectDescriptionListQueryCounts}
-use Rattle.reads.specs.declared.quantities.QuantitiesRead.{QuantitiesRead}
-use Rattle.reads.specs.declared.quantities.QuantitiesRead.TheVariants.{Counts, Refused}
 
 abbrev pub counts_of : List ℕ → ObjectDescriptionListQueryCounts
 counts_of s = record {
@@ -17,8 +15,8 @@ counts_of s = record {
 }
 
 -- "Quantities need 10 bytes." Of more, the first 10.
-unfoldable pub quantities_read : List ℕ → QuantitiesRead
-quantities_read s = pick (ltb (length s) 10) (Refused undecodable) (Counts (counts_of s))
+unfoldable pub quantities_read : List ℕ → Result ObjectDescriptionListQueryCounts Refusal
+quantities_read s = read_unless (ltb (length s) 10) (counts_of s)
 
 -- the five counts in the order in which their words stand
 abbrev pub in_order : ObjectDescriptionListQueryCounts → List ℕ

@@ -7,5 +7,3 @@ pub mod quantities;
 pub mod reader;
 pub mod typed;
 pub mod whole;
-
-const UNDECODABLE: u8 = 0x20;

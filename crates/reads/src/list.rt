@@ -2,12 +2,12 @@
 ghost use Rattle.std.specs.Prelude.{◌≡◌, ◌-◌};
 ghost use Rattle.reads.specs.List.{odd, item_at};
 
-use crate::UNDECODABLE;
+use wire::refusal::Refusal;
 
-#[derive(Clone, Copy)]
-pub enum ItemRead {
-    Item { index: u16, next: usize },
-    Refused(u8),
+#[derive(Clone, Copy, Debug, PartialEq, Eq)]
+pub struct Item {
+    pub index: u16,
+    pub next: usize,
 }
 
 pub(crate) fn odd(payload: &[u8]) -> bool
@@ -16,25 +16,16 @@ pub(crate) fn odd(payload: &[u8]) -> bool
     payload.len() % 2 == 1
 }
 
-// How many bytes are left from a position on, and 0 past the end.
-fn left(size: usize, at: usize) -> usize
-    ensures { result ≡ size - at }
-{
-    if size < at { 0 } else { size - at }
-}
-
 // The index at a position, which counts bytes and may be any, and the position of the next.
-pub fn item_at(payload: &[u8], at: usize) -> ItemRead
+#[tactic(auto, using(wire::proofs::Tests::tests), unfolding(crate::specs::List::item_at))]
+pub fn item_at(payload: &[u8], at: usize) -> Result<Item, Refusal>
     ensures { result ≡ item_at payload.now at }
 {
-    if odd(payload) {
-        return ItemRead::Refused(UNDECODABLE);
+    if odd(payload) || payload.len().saturating_sub(at) < 2 {
+        return Err(Refusal::Undecodable);
     }
-    if left(payload.len(), at) < 2 {
-        return ItemRead::Refused(UNDECODABLE);
-    }
-    ItemRead::Item {
+    Ok(Item {
         index: wire::word_at(payload, at),
         next: at + 2,
-    }
+    })
 }

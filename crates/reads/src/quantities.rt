@@ -2,9 +2,9 @@
 ghost use Rattle.std.specs.Prelude.{◌≡◌};
 ghost use Rattle.reads.specs.Quantities.{quantities_read};
 
-use crate::UNDECODABLE;
+use wire::refusal::Refusal;
 
-#[derive(Clone, Copy)]
+#[derive(Clone, Copy, Debug, Default, PartialEq, Eq)]
 pub struct ObjectDescriptionListQueryCounts {
     pub all: u16,
     pub rx_pdo_mappable: u16,
@@ -13,20 +13,15 @@ pub struct ObjectDescriptionListQueryCounts {
     pub startup_parameters: u16,
 }
 
-#[derive(Clone, Copy)]
-pub enum QuantitiesRead {
-    Counts(ObjectDescriptionListQueryCounts),
-    Refused(u8),
-}
-
 // The five counts, of the first ten bytes.
-pub fn read_quantities(payload: &[u8]) -> QuantitiesRead
+#[tactic(auto, using(wire::proofs::Tests::tests), unfolding(crate::specs::Quantities::quantities_read))]
+pub fn read_quantities(payload: &[u8]) -> Result<ObjectDescriptionListQueryCounts, Refusal>
     ensures { result ≡ quantities_read payload.now }
 {
     if payload.len() < 10 {
-        return QuantitiesRead::Refused(UNDECODABLE);
+        return Err(Refusal::Undecodable);
     }
-    QuantitiesRead::Counts(ObjectDescriptionListQueryCounts {
+    Ok(ObjectDescriptionListQueryCounts {
         all: wire::word_at(payload, 0),
         rx_pdo_mappable: wire::word_at(payload, 2),
         tx_pdo_mappable: wire::word_at(payload, 4),

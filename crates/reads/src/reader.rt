@@ -1,9 +1,11 @@
 // The object list read index by index: a reader holds the finished payload and a position, above `list::item_at`.
 ghost use Rattle.std.specs.Prelude.{◌≡◌};
+ghost use Rattle.std.specs.Iterator.{item_count};
 ghost use Rattle.reads.specs.List.{item_at};
-ghost use Rattle.reads.specs.Reader.{at_start, step_from, moved_on};
+ghost use Rattle.reads.specs.Reader.{at_start, moved_on, coming, Takes};
 
-use crate::list::{ItemRead, item_at};
+use crate::list::{Item, item_at};
+use wire::refusal::Refusal;
 
 #[derive(Clone, Copy)]
 pub struct ListReader<'a> {
@@ -11,35 +13,33 @@ pub struct ListReader<'a> {
     pub at: usize,
 }
 
-// An item, and the position after it: the same where it was refused.
-#[derive(Clone, Copy)]
-pub struct Stepped {
-    pub item: ItemRead,
-    pub at: usize,
-}
+impl<'a> ListReader<'a> {
+    // A reader at the payload's start.
+    pub fn new(payload: &'a [u8]) -> ListReader<'a>
+        ensures { result ≡ at_start payload.entry }
+    {
+        ListReader { payload, at: 0 }
+    }
 
-// A reader at the payload's start.
-pub fn new<'a>(payload: &'a [u8]) -> ListReader<'a>
-    ensures { result ≡ at_start payload.entry }
-{
-    ListReader { payload, at: 0 }
-}
-
-fn step_from(payload: &[u8], at: usize) -> Stepped
-    ensures { result ≡ step_from payload.now at }
-{
-    let item = item_at(payload, at);
-    match item {
-        ItemRead::Item { index: _, next } => Stepped { item, at: next },
-        ItemRead::Refused(_) => Stepped { item, at },
+    // The item at the reader's position; the reader moves on behind it.
+    pub fn read(&mut self) -> Result<Item, Refusal>
+        ensures { (result ≡ item_at self.old.payload.now self.old.at) × (self.new ≡ moved_on self.old) }
+    {
+        let item = item_at(self.payload, self.at)?;
+        self.at = item.next;
+        Ok(item)
     }
 }
 
-// The item at the reader's position; the reader moves on behind it.
-pub fn next<'s, 'a>(reader: &'s mut ListReader<'a>) -> ItemRead
-    ensures { (result ≡ item_at reader.old.payload.now reader.old.at) × (reader.new ≡ moved_on reader.old) }
-{
-    let step = step_from(reader.payload, reader.at);
-    reader.at = step.at;
-    step.item
+impl Iterator for ListReader<'_> {
+    type Item = u16;
+
+    ghost next_gives = { Takes };
+
+    ghost remaining = { item_count coming };
+
+    fn next(&mut self) -> Option<u16> {
+        let item = self.read().ok()?;
+        Some(item.index)
+    }
 }

@@ -1,106 +1,137 @@
 // Typed reads: the first 1, 2 or 4 bytes of a payload, unsigned or two's complement.
-ghost use Rattle.std.specs.Prelude.{◌≡◌};
-ghost use Rattle.reads.specs.Signed.{signed_of};
-ghost use Rattle.reads.specs.Typed.{unsigned_read, signed_read};
+ghost use Rattle.std.specs.Prelude.{◌≡◌, refl, ℕ, ◌^◌, ◌<◌};
+ghost use Rattle.wire.specs.Bytes.{value, window};
+ghost use Rattle.reads.specs.Signed.{signed_of, bits_of};
+ghost use Rattle.reads.specs.Typed.{integer_read, unsigned_of};
+ghost use Rattle.reads.specs.Integers.{bits_signed};
 
-use crate::UNDECODABLE;
+use wire::refusal::Refusal;
 
-#[derive(Clone, Copy)]
-pub enum UnsignedRead {
-    Value(u32),
-    Refused(u8),
+// A number of so many bytes.
+pub trait Integer: Sized {
+    ghost BYTES: { ℕ };
+
+    const BYTES: usize;
+
+    // The number that bits are, and the bits that it is.
+    ghost of_bits: { ℕ → Self };
+
+    ghost to_bits: { Self → ℕ };
+
+    // The number at the front of a payload; bytes that are not there count as 0.
+    fn front(payload: &[u8]) -> Self
+        ensures { result ≡ of_bits (value (window BYTES payload.now 0)) };
+
+    // No two numbers have the same bits.
+    ghost back: { (bits : ℕ) → bits < 256 ^ BYTES → to_bits (of_bits bits) ≡ bits };
 }
 
-#[derive(Clone, Copy)]
-pub enum SignedRead {
-    Value(i32),
-    Refused(u8),
-}
+impl Integer for u8 {
+    ghost BYTES = { 1 };
 
-// The first byte, the first two bytes and the first four, unsigned.
-pub fn read_u8(payload: &[u8]) -> UnsignedRead
-    ensures { result ≡ unsigned_read 1 payload.now }
-{
-    if payload.len() < 1 {
-        return UnsignedRead::Refused(UNDECODABLE);
-    }
-    UnsignedRead::Value(wire::byte(payload, 0) as u32)
-}
+    const BYTES: usize = 1;
 
-pub fn read_u16(payload: &[u8]) -> UnsignedRead
-    ensures { result ≡ unsigned_read 2 payload.now }
-{
-    if payload.len() < 2 {
-        return UnsignedRead::Refused(UNDECODABLE);
-    }
-    UnsignedRead::Value(wire::word_at(payload, 0) as u32)
-}
+    ghost of_bits = { unsigned_of };
 
-pub fn read_u32(payload: &[u8]) -> UnsignedRead
-    ensures { result ≡ unsigned_read 4 payload.now }
-{
-    if payload.len() < 4 {
-        return UnsignedRead::Refused(UNDECODABLE);
-    }
-    UnsignedRead::Value(wire::long_at(payload, 0))
-}
+    ghost to_bits = { unsigned_of };
 
-// Two's complement at each width. Where the highest bit is set the number is -1 minus the turned bits, and not the bits less
-// 256: so no step leaves the type, at the lowest value either.
-fn i8_of(bits: u8) -> i8
-    ensures { result ≡ signed_of 1 bits }
-{
-    if bits < 0x80 {
-        bits as i8
-    } else {
-        -1 - ((0xff - bits) as i8)
+    ghost back = { λ bits fit. refl };
+
+    fn front(payload: &[u8]) -> u8 {
+        wire::byte(payload, 0)
     }
 }
 
-fn i16_of(bits: u16) -> i16
-    ensures { result ≡ signed_of 2 bits }
-{
-    if bits < 0x8000 {
-        bits as i16
-    } else {
-        -1 - ((0xffff - bits) as i16)
+impl Integer for u16 {
+    ghost BYTES = { 2 };
+
+    const BYTES: usize = 2;
+
+    ghost of_bits = { unsigned_of };
+
+    ghost to_bits = { unsigned_of };
+
+    ghost back = { λ bits fit. refl };
+
+    fn front(payload: &[u8]) -> u16 {
+        wire::word_at(payload, 0)
     }
 }
 
-fn i32_of(bits: u32) -> i32
-    ensures { result ≡ signed_of 4 bits }
-{
-    if bits < 0x8000_0000 {
-        bits as i32
-    } else {
-        -1 - ((0xffff_ffff - bits) as i32)
+impl Integer for u32 {
+    ghost BYTES = { 4 };
+
+    const BYTES: usize = 4;
+
+    ghost of_bits = { unsigned_of };
+
+    ghost to_bits = { unsigned_of };
+
+    ghost back = { λ bits fit. refl };
+
+    fn front(payload: &[u8]) -> u32 {
+        wire::long_at(payload, 0)
     }
 }
 
-// The same bytes, signed.
-pub fn read_i8(payload: &[u8]) -> SignedRead
-    ensures { result ≡ signed_read 1 payload.now }
-{
-    if payload.len() < 1 {
-        return SignedRead::Refused(UNDECODABLE);
+impl Integer for i8 {
+    ghost BYTES = { 1 };
+
+    const BYTES: usize = 1;
+
+    ghost of_bits = { signed_of 1 };
+
+    ghost to_bits = { bits_of 1 };
+
+    ghost back = { bits_signed 1 };
+
+    #[tactic(auto, using(crate::proofs::Width::casts))]
+    fn front(payload: &[u8]) -> i8 {
+        u8::front(payload).cast_signed()
     }
-    SignedRead::Value(i8_of(wire::byte(payload, 0)) as i32)
 }
 
-pub fn read_i16(payload: &[u8]) -> SignedRead
-    ensures { result ≡ signed_read 2 payload.now }
-{
-    if payload.len() < 2 {
-        return SignedRead::Refused(UNDECODABLE);
+impl Integer for i16 {
+    ghost BYTES = { 2 };
+
+    const BYTES: usize = 2;
+
+    ghost of_bits = { signed_of 2 };
+
+    ghost to_bits = { bits_of 2 };
+
+    ghost back = { bits_signed 2 };
+
+    #[tactic(auto, using(crate::proofs::Width::casts))]
+    fn front(payload: &[u8]) -> i16 {
+        u16::front(payload).cast_signed()
     }
-    SignedRead::Value(i16_of(wire::word_at(payload, 0)) as i32)
 }
 
-pub fn read_i32(payload: &[u8]) -> SignedRead
-    ensures { result ≡ signed_read 4 payload.now }
-{
-    if payload.len() < 4 {
-        return SignedRead::Refused(UNDECODABLE);
+impl Integer for i32 {
+    ghost BYTES = { 4 };
+
+    const BYTES: usize = 4;
+
+    ghost of_bits = { signed_of 4 };
+
+    ghost to_bits = { bits_of 4 };
+
+    ghost back = { bits_signed 4 };
+
+    #[tactic(auto, using(crate::proofs::Width::casts))]
+    fn front(payload: &[u8]) -> i32 {
+        u32::front(payload).cast_signed()
     }
-    SignedRead::Value(i32_of(wire::long_at(payload, 0)))
+}
+
+// The number of the first bytes of a payload.
+#[tactic(auto, using(crate::proofs::AnyWidth::integers))]
+pub fn read<T: Integer>(payload: &[u8]) -> Result<T, Refusal>
+    ensures { result ≡ integer_read T.BYTES T.of_bits payload.now }
+{
+    if payload.len() < T::BYTES {
+        return Err(Refusal::Undecodable);
+    }
+    Ok(T::front(payload))
 }

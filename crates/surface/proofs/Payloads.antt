@@ -11,7 +11,7 @@ use Rattle.wire.specs.Bytes.{Bytes, value, window, word_at}
 use Rattle.wire.proofs.Cases.{by}
 use Rattle.wire.proofs.Bytes.{window_is}
 use Rattle.reads.specs.Signed as reads
-use Rattle.reads.specs.Typed.{unsigned_read, signed_read}
+use Rattle.reads.specs.Typed.{integer_read, unsigned_read, signed_read}
 use Rattle.reads.specs.List.{odd, item_at}
 use Rattle.reads.specs.Quantities.{quantities_read}
 use Rattle.linked.specs.Reading.{unsigned_of, signed_of, item_of, quantities_of}
@@ -36,7 +36,7 @@ makes_four s h = first_bytes 4 s h ∙ omega arith
 -- ---- unsigned
 
 unsigned_in_lem : (n x : ℕ) (s : List ℕ) → Makes n x s → unsigned_of (unsigned_read n s) ≡ unsigned_in n x s
-unfolding unsigned_read
+unfolding integer_read
 unsigned_in_lem n x s m = by (ltb (length s) n) (λ y. rw y) (λ e. rw (e, m (ltb-false (length s) n e)))
 
 pub u8_in : (s : List ℕ) → unsigned_of (unsigned_read 1 s) ≡ read_u8 s
@@ -57,7 +57,7 @@ signed_is n half all x h a l =
 
 signed_in_lem : (n half all x : ℕ) (s : List ℕ) → Makes n x s → reads.half n ≡ half → 256 ^ n ≡ all → x < all
     → signed_of (signed_read n s) ≡ signed_in n (twos half all x) s
-unfolding signed_read
+unfolding integer_read
 signed_in_lem n half all x s m h a l =
     by (ltb (length s) n)
     (λ y. rw y)
