@@ -1,5 +1,4 @@
 pub mod Printing
-pub mod Forms
 pub mod Spoken
 pub mod Read
 pub mod Parts

@@ -5,6 +5,7 @@ use mathlib.Core.Bool.{true, false}
 use mathlib.Core.List.{List, [], ◌∷◌, ◌++◌, append_assoc, append-nil}
 use mathlib.Core.Option.{Option, none, some}
 use native.Mathlib.Omega.{arith}
+use Rattle.std.specs.Prelude.{Some}
 use lib.Dec.{eqb, leb}
 use lib.ListN.{length, take, drop, replicate, length-take, length-replicate}
 use lib.Seq.{take_all, take_at, take-length, drop-length}
@@ -43,7 +44,6 @@ use Rattle.order_run.specs.Turns.{called, lent_back, line_text, text_of, Said, f
 use Rattle.order_run.specs.Printed.{lines_in, said, printed}
 use Rattle.order_run.specs.Feed.{nothing, st}
 use Rattle.order_run.specs.Limits.{failing, Lines, Frame, verdict, number, with_chunk, request_line, Awaits, entered, asks, waits, Courses}
-use Rattle.order_run.specs.declared.entry.Form.TheVariants.{Listed}
 use Rattle.order_run.proofs.Spoken.{number_0, number_1, number_2, number_last}
 use Rattle.order_run.proofs.Whole.{over_said, lines_at, said_line, said_bad}
 
@@ -82,11 +82,11 @@ unfolding request called lent_back step judge line.settled and_then head headed 
 requested t c e = rw e
 
 entry_said : (o : Order) → unfit_of o ≡ false
-    → after_form (empty_at 1) (Listed o) ≡ goes_on (alone (awaiting_of (opened_of o)) 2) (request_line 1 (opened_of o))
+    → after_form (empty_at 1) (Some o) ≡ goes_on (alone (awaiting_of (opened_of o)) 2) (request_line 1 (opened_of o))
 unfolding called step judge line.settled and_then seated view_of desk_of answer_for begins_with request_due due_of
 entry_said o u = rw u (requested (opened_of o) 1 refl)
 
-unfit_said : (o : Order) → unfit_of o ≡ true → after_form (empty_at 1) (Listed o) ≡ failed (empty_at 1)
+unfit_said : (o : Order) → unfit_of o ≡ true → after_form (empty_at 1) (Some o) ≡ failed (empty_at 1)
 unfolding called step judge line.settled and_then seated view_of desk_of answer_for begins_with
 unfit_said o u = rw u
 
@@ -229,7 +229,7 @@ module _ (d₀ : List ℕ) (all : length d₀ ≡ 4096) (entry : List ℕ) (o : 
     due : request_due t ≡ false
     on : (more : List ℕ) → from_start (text_of (entry ∷ ss) ++ more) ≡ text ++ said (alone t c) 1 kept (lines_in more)
 
-  entry_stands : Frame entry → form_of entry ≡ Listed o → unfit_of o ≡ false → Stands [] (awaiting_of (opened_of o)) 2 (request_line 1 (opened_of o)) []
+  entry_stands : Frame entry → form_of entry ≡ Some o → unfit_of o ≡ false → Stands [] (awaiting_of (opened_of o)) 2 (request_line 1 (opened_of o)) []
   entry_stands F f u =
       record {
         kept = d₀;
@@ -337,7 +337,7 @@ module _ (d₀ : List ℕ) (all : length d₀ ≡ 4096) (entry : List ℕ) (o : 
           let z : (n : ℕ) → n ≤ 2 → number t s ≡ n → ⊥ = λ n l e. omega (arith, h, l, e) in
           last_one _ (number_last (called_by t c (verdict t s)) after (z 0 (omega arith)) (z 1 (omega arith)) (z 2 (omega arith))) refl surplus
 
-  stands : Frame entry → form_of entry ≡ Listed o → {ss : List (List ℕ)} {t : Transfer} {c : ℕ} {text payload : List ℕ}
+  stands : Frame entry → form_of entry ≡ Some o → {ss : List (List ℕ)} {t : Transfer} {c : ℕ} {text payload : List ℕ}
       → Awaits o ss t c text payload → Stands ss t c text payload
   stands F f (entered u) = entry_stands F f u
   stands F f (asks s A G n e) = asks_stands (stands F f A) s G n e

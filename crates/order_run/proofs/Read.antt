@@ -23,15 +23,11 @@ use Rattle.desk.specs.declared.change.Change.{Change}
 use Rattle.desk.proofs.Kept.{gives}
 use Rattle.order_run.specs.Entry.{form_of}
 use Rattle.order_run.specs.Turns.{called, lent_back, failed, request, after_enter, after_form, after_receive, after_reply, kept_reply, after_frame, kept_frame, Says}
-use Rattle.order_run.specs.declared.entry.Form.TheVariants.{Listed, Unlisted}
 use Rattle.order_run.proofs.Spoken.{number_1}
 
 -- ---- an entry
 
-pub unlisted : (d : Desk) (s : List ℕ) → form_of s ≡ Unlisted → failed d ≡ after_form d (form_of s)
-unlisted d s f = ap (after_form d) (sym f)
-
-module _ {d : Desk} (s : List ℕ) {o : Order} {c : Change} (g : Good d) (f : form_of s ≡ Listed o) (G : Changes d (enter 0 o) c) where
+module _ {d : Desk} (s : List ℕ) {o : Order} {c : Change} (g : Good d) (f : form_of s ≡ Some o) (G : Changes d (enter 0 o) c) where
   entering : after_enter (called_by c d) ≡ after_form d (form_of s)
   unfolding called
   entering = ap after_enter G.makes ∙ ap (after_form d) (sym f)

@@ -1,16 +1,15 @@
 -- Entries and lines of document 01, "The order program", closed by computation. Assumes nothing.
-use Rattle.std.specs.Prelude.{ℕ, ◌≡◌, refl, List, [], ◌∷◌, map}
+use Rattle.std.specs.Prelude.{ℕ, ◌≡◌, refl, List, [], ◌∷◌, map, Option, Some, None}
 use Rattle.wire.specs.Bytes.{hex}
 use Rattle.transfer.specs.Entry.{default_budget}
-use Rattle.order_run.specs.declared.entry.Form.{Form}
-use Rattle.order_run.specs.declared.entry.Form.TheVariants.{Listed, Unlisted}
+use Rattle.transfer.specs.declared.Order.{Order}
 use Rattle.order_run.specs.Entry.{is_form, form_of}
 use Rattle.order_run.specs.Printed.{lines_in}
 
-abbrev order : ℕ → ℕ → ℕ → ℕ → ℕ → Form
-order kind sub index value len = Listed (record { kind = kind; sub = sub; index = index; value = value; len = len; budget = default_budget })
+abbrev order : ℕ → ℕ → ℕ → ℕ → ℕ → Option Order
+order kind sub index value len = Some (record { kind = kind; sub = sub; index = index; value = value; len = len; budget = default_budget })
 
-unfoldable pub entries : List (Form × Form)
+unfoldable pub entries : List (Option Order × Option Order)
 entries =
     -- 01181001, the document's example; 02, 03 with one byte and with four, 04 and 05
     (form_of (hex 4 0x01181001), order 1 1 0x1018 0 0)
@@ -20,12 +19,12 @@ entries =
     ∷ (form_of (hex 2 0x0401), order 4 0 1 0 0)
     ∷ (form_of (hex 1 0x05), order 5 0 0 0 0)
     -- no listed form: none at all, a byte too few or too many, another number
-    ∷ (form_of [], Unlisted)
-    ∷ (form_of (hex 3 0x011810), Unlisted)
-    ∷ (form_of (hex 5 0x0118100100), Unlisted)
-    ∷ (form_of (hex 9 0x036060000102030405), Unlisted)
-    ∷ (form_of (hex 3 0x040100), Unlisted)
-    ∷ (form_of (hex 4 0x06181001), Unlisted)
+    ∷ (form_of [], None)
+    ∷ (form_of (hex 3 0x011810), None)
+    ∷ (form_of (hex 5 0x0118100100), None)
+    ∷ (form_of (hex 9 0x036060000102030405), None)
+    ∷ (form_of (hex 3 0x040100), None)
+    ∷ (form_of (hex 4 0x06181001), None)
     ∷ []
 
 -- "the last line may lack its line end", and behind the last line end is no line
@@ -37,7 +36,7 @@ texts =
     ∷ (lines_in [], [])
     ∷ []
 
-pub entries_hold : map (λ (e : Form × Form). e.0) entries ≡ map (λ (e : Form × Form). e.1) entries
+pub entries_hold : map (λ (e : Option Order × Option Order). e.0) entries ≡ map (λ (e : Option Order × Option Order). e.1) entries
 unfolding entries form_of is_form
 entries_hold = refl
 

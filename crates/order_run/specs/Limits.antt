@@ -1,6 +1,6 @@
 -- The limits of the order program, and its course from the entry to the last number: what is printed for a file, by the numbers of
 -- document 01, "The order program". Assumes nothing.
-use Rattle.std.specs.Prelude.{ℕ, ◌%◌, ◌<◌, ◌≤◌, ◌≡◌, true, false, List, [], ◌∷◌, ◌++◌, length, take}
+use Rattle.std.specs.Prelude.{ℕ, ◌%◌, ◌<◌, ◌≤◌, ◌≡◌, true, false, List, [], ◌∷◌, ◌++◌, length, take, Some, None}
 use Rattle.std.proofs.Math.Option.{some}
 use Rattle.wire.specs.Bytes.{Bytes}
 use Rattle.wire.specs.Front.{in_front}
@@ -20,7 +20,6 @@ use Rattle.order_text.specs.Lines.{has_bad, bytes_of}
 use Rattle.order_run.specs.Entry.{form_of}
 use Rattle.order_run.specs.Turns.{line_text, text_of, after_frame, kept_frame}
 use Rattle.order_run.specs.Printed.{said, printed}
-use Rattle.order_run.specs.declared.entry.Form.TheVariants.{Listed, Unlisted}
 
 -- "print `ff` as its last line and stop"
 abbrev pub failing : List ℕ
@@ -90,10 +89,10 @@ pub record Prints (entry : List ℕ) (ss : List (List ℕ)) (t : Transfer) (text
 
 pub record Course (entry : List ℕ) : Type 0 where
   pub goes : (o : Order) (ss : List (List ℕ)) (t : Transfer) (c : ℕ) (text payload : List ℕ)
-      → form_of entry ≡ Listed o → Awaits o ss t c text payload → Prints entry ss t text payload
+      → form_of entry ≡ Some o → Awaits o ss t c text payload → Prints entry ss t text payload
   -- "a bad entry (.. no listed form, or answered 15)"
-  pub unlisted : (more : List ℕ) → form_of entry ≡ Unlisted → printed (text_of (entry ∷ []) ++ more) ≡ failing
-  pub unfit : (more : List ℕ) (o : Order) → form_of entry ≡ Listed o → unfit_of o ≡ true → printed (text_of (entry ∷ []) ++ more) ≡ failing
+  pub unlisted : (more : List ℕ) → form_of entry ≡ None → printed (text_of (entry ∷ []) ++ more) ≡ failing
+  pub unfit : (more : List ℕ) (o : Order) → form_of entry ≡ Some o → unfit_of o ≡ true → printed (text_of (entry ∷ []) ++ more) ≡ failing
 
 abbrev pub Courses : Type 0
 Courses = (entry : List ℕ) → Frame entry → Course entry

@@ -14,8 +14,7 @@ use Rattle.desk.specs.declared.change.Change.{Change}
 use Rattle.order_text.specs.Text.{hex_text}
 use Rattle.order_text.specs.Lines.{Line, good, bad}
 use Rattle.order_run.specs.Entry.{form_of}
-use Rattle.order_run.specs.declared.entry.Form.{Form}
-use Rattle.order_run.specs.declared.entry.Form.TheVariants.{Listed, Unlisted}
+use Rattle.transfer.specs.declared.Order.{Order}
 use Rattle.order_run.specs.declared.turns.Turn.{Turn}
 
 -- what a call gives back, and the buffer b that it was lent, as it is afterwards
@@ -59,9 +58,9 @@ request d = record { desk = (called d sending).desk; phase = 1; text = line_text
 abbrev pub after_enter : Called → Said
 after_enter c = pick (eqb c.answer.number 0x01) (request c.desk) (failed c.desk)
 
-abbrev pub after_form : Desk → Form → Said
-after_form d (Listed o) = after_enter (called d (enter 0 o))
-after_form d Unlisted = failed d
+abbrev pub after_form : Desk → Option Order → Said
+after_form d (Some o) = after_enter (called d (enter 0 o))
+after_form d None = failed d
 
 -- "then the last number and, after 00, the stored payload"
 unfoldable pub after_receive : Called → List ℕ → Said

@@ -6,7 +6,7 @@ ghost use Rattle.desk.specs.Change.{Within, changed_by, called_by};
 ghost use Rattle.order_run.specs.Turns.{line_text, last, request as Turns·request, after_form, after_receive, after_frame, kept_frame, after_all, quiet, Says, Enters, Turned};
 ghost use Rattle.order_run.specs.Entry.{form_of};
 
-use crate::entry::{Form, form_of};
+use crate::entry::form_of;
 use desk::Desk;
 use desk::change::{Change, changed};
 
@@ -95,10 +95,7 @@ fn entry_read(desk: Desk, frame: &[u8]) -> Option<Change>
     requires { Good desk }
     ensures { Enters desk (after_form desk (form_of frame.now)) result }
 {
-    let form = form_of(frame);
-    let Form::Listed(order) = form else {
-        return None;
-    };
+    let order = form_of(frame)?;
     let change = desk.entering(SEAT, order);
     let answer = change.answer;
     if answer.number == 0x01 {
