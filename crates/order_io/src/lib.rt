@@ -5,7 +5,6 @@ ghost use Rattle.std.specs.Prelude.{◌≡◌, length, take, IfOk, OnErr};
 ghost use Rattle.order_run.specs.Feed.{st_of, after, finished, Going};
 ghost use Rattle.order_io.specs.Shown.{Shows, Leaves};
 
-use order_run::turns::OVER;
 use order_run::{ROOM, Run};
 use std::io;
 use std::io::{Read, Write};
@@ -95,7 +94,7 @@ pub fn turns(
     let mut run = order_run::start();
     for _ in 0..u64::MAX {
         run = turn(input, output, run, piece, frame, data, out)?;
-        if run.phase == OVER {
+        if run.phase.is_over() {
             break;
         }
     }

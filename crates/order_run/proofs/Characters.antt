@@ -8,7 +8,7 @@ use native.Mathlib.Nat.{add-zero}
 use lib.Dec.{eqb, ltb}
 use lib.ListN.{length, get_or, set, take, drop, length-take}
 use lib.Seq.{paste, paste-zero, drop-cons, get_or-take}
-use borrow.Author.Tests.{eq-eqb, ne_eqb, eqb-true, eqb-false, leb-false, lt-leb, ltb-false, ltb-true}
+use borrow.Author.Tests.{ne_eqb, eqb-true, eqb-false, leb-false, lt-leb, ltb-false, ltb-true}
 use Rattle.wire.proofs.Cases.{by}
 use Rattle.line.specs.Desk.{first_counter}
 use Rattle.desk.specs.Record.{empty_at}
@@ -18,10 +18,12 @@ use Rattle.order_text.specs.Digits.{digit_of, byte_of}
 use Rattle.order_text.specs.Lines.{bytes_of}
 use Rattle.order_text.proofs.Digits.{byte_digits}
 use Rattle.order_text.proofs.Lines.{digit_at, byte_turn}
-use Rattle.order_run.specs.Turns.{failed, after_frame, kept_frame}
+use Rattle.order_run.specs.Turns.{is_over, failed, after_frame, kept_frame}
 use Rattle.order_run.specs.Feed.{part, nothing, further, St, st, Did, behind, end_said, end_kept, ended, stopped, fails, put_part, put, after_char, after, Begun, Whole, Starts}
 use Rattle.order_run.specs.declared.digits.Part.{Part}
 use Rattle.order_run.proofs.Parts.{fails_room, fails_not, fails_digit, put_first, put_second}
+use Rattle.order_run.specs.declared.turns.Phase.{Phase}
+use Rattle.order_run.specs.declared.turns.Phase.TheVariants.{Entry}
 
 module _ (s : St) where
   pub end_whole : eqb s.part.half 16 ≡ true
@@ -37,12 +39,12 @@ module _ (s : St) where
 pub nothing_begun : Begun nothing
 nothing_begun = record { room = omega arith; digit = omega arith; place = λ h. omega arith }
 
-pub started : (d : Desk) (p : Part) → Fresh first_counter d → p ≡ nothing → Starts (record { desk = d; phase = 0; part = p })
+pub started : (d : Desk) (p : Part) → Fresh first_counter d → p ≡ nothing → Starts (record { desk = d; phase = Entry; part = p })
 started d p F e =
     record {
       told =
-          ap (λ (x : Desk). record { desk = x; phase = 0; part = p }) F.empty
-          ∙ ap (λ (x : Part). record { desk = empty_at 1; phase = 0; part = x }) e;
+          ap (λ (x : Desk). record { desk = x; phase = Entry; part = p }) F.empty
+          ∙ ap (λ (x : Part). record { desk = empty_at 1; phase = Entry; part = x }) e;
       going = record { good = F.good; begun = rw e nothing_begun };
     }
 
@@ -52,29 +54,29 @@ abbrev pub still : St → Did
 still s = record { st = s; text = [] }
 
 module _ (s : St) where
-  pub after_over : (t : List ℕ) → s.phase ≡ 2 → after s t ≡ still s
+  pub after_over : (t : List ℕ) → is_over s.phase ≡ true → after s t ≡ still s
   unfolding after
   after_over [] e = refl
-  after_over (c ∷ t) e = rw (eq-eqb s.phase 2 e)
+  after_over (c ∷ t) e = rw (e)
 
   pub after_none : after s [] ≡ still s
   unfolding after
   after_none = refl
 
-  module _ (t : List ℕ) (n : s.phase ≡ 2 → ⊥) where
+  module _ (t : List ℕ) (n : is_over s.phase ≡ false) where
     pub after_line_lem : after s (10 ∷ t) ≡ behind (end_said s).text (after (ended s).st t)
     unfolding after after_char
-    after_line_lem = rw (ne_eqb s.phase 2 n)
+    after_line_lem = rw (n)
 
     module _ (c : ℕ) (z : c ≡ 10 → ⊥) where
       pub after_put : fails s.part c ≡ false → after s (c ∷ t) ≡ after (put s (digit_of c)) t
       unfolding after after_char
-      after_put f = rw (ne_eqb s.phase 2 n, ne_eqb c 10 z, f)
+      after_put f = rw (n, ne_eqb c 10 z, f)
 
       pub after_bad : fails s.part c ≡ true → after s (c ∷ t) ≡ stopped s
       unfolding after after_char
       after_bad f =
-          rw (ne_eqb s.phase 2 n, ne_eqb c 10 z, f)
+          rw (n, ne_eqb c 10 z, f)
           (ap (behind (stopped s).text) (after_stopped s t)
           ∙ ap (λ (x : List ℕ). record { st = (stopped s).st; text = x }) (append-nil (stopped s).text))
         where
@@ -114,7 +116,7 @@ begun_further p r b h e =
 
 -- ---- whole bytes, two digits at a time
 
-module _ (d : Desk) (ph : ℕ) (k : List ℕ) (n : ph ≡ 2 → ⊥) where
+module _ (d : Desk) (ph : Phase) (k : List ℕ) (n : is_over ph ≡ false) where
   pair_step : (m a b : ℕ) (f t : List ℕ) → m < 1486 → digit_of a ≤ 15 → digit_of b ≤ 15
       → after (st d ph (part m 16) f k) (a ∷ b ∷ t) ≡ after (st d ph (part (m + 1) 16) (set f m (byte_of a b)) k) t
   pair_step m a b f t h x y =

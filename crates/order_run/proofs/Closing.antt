@@ -1,10 +1,10 @@
 -- Laws of the input's end, and of a piece that is cut to its room. Assumes nothing.
 use Prim.Native.Nat.{ℕ, ◌+◌, ◌-◌, ◌≤◌, min}
 use mathlib.Core.Path.{◌≡◌, refl, sym, ap, ◌∙◌}
-use mathlib.Core.Bool.{true, false}
+use mathlib.Core.Bool.{true, false, true≢false}
 use mathlib.Core.List.{List, [], ◌∷◌, append-nil}
 use native.Mathlib.Omega.{arith}
-use lib.Dec.{eqb, ltb}
+use lib.Dec.{ltb}
 use lib.ListN.{length, length-append}
 use lib.Seq.{length-paste}
 use borrow.Author.Tests.{eq-eqb, ne_eqb}
@@ -12,13 +12,14 @@ use Rattle.wire.specs.Store.{laid}
 use Rattle.judge.proofs.Laid.{laid_join, laid_nil}
 use Rattle.desk.specs.declared.Desk.{Desk}
 use Rattle.wire.proofs.Cases.{by}
-use Rattle.order_run.specs.Turns.{Said, after_all, turn_of, Turned}
+use Rattle.order_run.specs.Turns.{is_entry, is_over, Said, after_all, turn_of, Turned}
 use Rattle.order_run.specs.Feed.{nothing, St, Did, behind, read, after, begun, line_ended, closed, finished, Going, st_of, Feeds}
 use Rattle.order_run.specs.declared.Run.{Run}
 use Rattle.order_run.specs.declared.digits.Part.{Part}
 use Rattle.order_run.specs.declared.turns.Turn.{Turn}
 use Rattle.order_run.specs.declared.Fed.{Fed}
 use Rattle.order_run.proofs.Characters.{nothing_begun, still}
+use Rattle.order_run.specs.declared.turns.Phase.{Phase}
 
 pub feeds_within : {x : Did} {n m : ℕ} {r : Fed} {f k o o' : List ℕ} → n ≤ m → Feeds x n r f k o o' → Feeds x m r f k o o'
 feeds_within h F =
@@ -55,11 +56,11 @@ nothing_fed r f k o G e =
     rw (← ended_before (st_of r f k) e)
     (record { told = refl; framed = refl; stored = refl; printed = laid_nil o 0; going = G; short = λ n. omega arith })
 
-all_over : (p : ℕ) (d : Desk) → (after_all p d).phase ≡ 2
+all_over : (p : Phase) (d : Desk) → is_over (after_all p d).phase ≡ true
 unfolding after_all
-all_over p d = by (eqb p 0) (λ e. rw e) (λ e. rw e)
+all_over p d = by (is_entry p) (λ e. rw e) (λ e. rw e)
 
-abbrev fed : Desk → ℕ → Part → ℕ → Fed
+abbrev fed : Desk → Phase → Part → ℕ → Fed
 fed d ph p n = record { run = record { desk = d; phase = ph; part = p }; printed = n }
 
 -- the run after a last line, and how much is printed then
@@ -68,22 +69,22 @@ told_last : (x : Said) (n : ℕ) {t : Turn} {p : Part} {m : ℕ} → t ≡ turn_
 told_last x n e z h = λ i. fed (e i).desk (e i).phase (z i) ((ap (λ (y : Turn). y.end) e ∙ h) i)
 
 module _ (s : St) {r : Fed} {f k o o₁ : List ℕ} (F : Feeds (line_ended s) 4096 r f k o o₁) where
-  phase_is : r.run.phase ≡ (line_ended s).st.phase
-  phase_is = ap (λ (x : Fed). x.run.phase) F.told
+  over_is : is_over r.run.phase ≡ is_over (line_ended s).st.phase
+  over_is = ap (λ (x : Fed). is_over x.run.phase) F.told
 
-  pub closed_over : r.run.phase ≡ 2 → Feeds (finished s) 4096 r f k o o₁
+  pub closed_over : is_over r.run.phase ≡ true → Feeds (finished s) 4096 r f k o o₁
   unfolding finished closed
   closed_over e =
       let x = line_ended s in
       let q : finished s ≡ x =
-      rw (eq-eqb x.st.phase 2 (sym phase_is ∙ e)) (ap (λ (y : List ℕ). record { st = x.st; text = y }) (append-nil x.text)) in
+      rw ((sym over_is ∙ e)) (ap (λ (y : List ℕ). record { st = x.st; text = y }) (append-nil x.text)) in
       rw q F
 
   -- room for the last number
-  pub closing_room : (r.run.phase ≡ 2 → ⊥) → length o₁ ≡ 143363 → r.printed + 3 ≤ length o₁
-  closing_room g l = omega (arith, ap (λ (x : Fed). x.printed) F.told, F.short (λ e. g (phase_is ∙ e)))
+  pub closing_room : is_over r.run.phase ≡ false → length o₁ ≡ 143363 → r.printed + 3 ≤ length o₁
+  closing_room g l = omega (arith, ap (λ (x : Fed). x.printed) F.told, F.short (sym over_is ∙ g))
 
-  pub closed_all : {t : Turn} {p : Part} {o₂ : List ℕ} → (r.run.phase ≡ 2 → ⊥)
+  pub closed_all : {t : Turn} {p : Part} {o₂ : List ℕ} → is_over r.run.phase ≡ false
       → Turned (after_all r.run.phase r.run.desk) r.printed t o₁ o₂ → p ≡ nothing
       → Feeds (finished s) 4096 (record { run = record { desk = t.desk; phase = t.phase; part = p }; printed = t.end }) f k o o₂
   unfolding finished closed
@@ -95,7 +96,7 @@ module _ (s : St) {r : Fed} {f k o o₁ : List ℕ} (F : Feeds (line_ended s) 40
       let n : r.printed ≡ length x.text = ap (λ (y : Fed). y.printed) F.told in
       let a = after_all r.run.phase r.run.desk in
       let q : finished s ≡ behind x.text (read a x.st.frame x.st.kept) =
-      rw (ne_eqb x.st.phase 2 (λ e. g (phase_is ∙ e))) (ap (λ (y : Said). behind x.text (read y x.st.frame x.st.kept)) (sym u)) in
+      rw (sym over_is ∙ g) (ap (λ (y : Said). behind x.text (read y x.st.frame x.st.kept)) (sym u)) in
       let j : r.printed ≡ 0 + length x.text = omega (arith, n) in
       rw q
       (record {
@@ -109,5 +110,5 @@ module _ (s : St) {r : Fed} {f k o o₁ : List ℕ} (F : Feeds (line_ended s) 40
             ∙ ap (λ (y : ℕ). laid (laid o 0 x.text) y a.text) j
             ∙ laid_join o 0 x.text a.text (omega (arith, T.fits, n, l));
         going = record { good = T.good; begun = rw z nothing_begun };
-        short = λ v. absurd (v (all_over r.run.phase r.run.desk));
+        short = λ v. absurd (true≢false (sym (all_over r.run.phase r.run.desk) ∙ v));
       })

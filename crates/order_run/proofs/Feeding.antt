@@ -1,7 +1,7 @@
 -- What holds where the two loops of `feed_piece` stand, and that each turn keeps it. Assumes nothing.
 use Prim.Native.Nat.{ℕ, ◌+◌, ◌*◌, ◌<◌, ◌≤◌}
 use mathlib.Core.Path.{◌≡◌, refl, sym, ap, ◌∙◌}
-use mathlib.Core.Bool.{true, false}
+use mathlib.Core.Bool.{true, false, true≢false}
 use mathlib.Core.List.{List, [], ◌∷◌, ◌++◌, append_assoc, append-nil}
 use native.Mathlib.Omega.{arith}
 use native.Mathlib.Numerals.{add-one}
@@ -12,19 +12,21 @@ use Rattle.judge.proofs.Laid.{laid_join, laid_nil}
 use Rattle.desk.specs.Record.{Good}
 use Rattle.desk.specs.declared.Desk.{Desk}
 use Rattle.order_text.specs.Digits.{digit_of}
-use Rattle.order_run.specs.Turns.{Said, failed, Turned}
+use Rattle.order_run.specs.Turns.{is_over, Said, failed, Turned}
 use Rattle.order_run.specs.Feed.{nothing, further, St, st, behind, stopped, end_said, end_kept, ended, fails, put_part, put_frame, after, Begun, Whole, Feeds, run_of}
 use Rattle.order_run.specs.declared.digits.Part.{Part}
 use Rattle.order_run.specs.declared.turns.Turn.{Turn}
 use Rattle.order_run.proofs.Characters.{nothing_begun, still, after_over, after_none, after_line_lem, after_put, after_bad, begun_put, begun_further, after_whole}
+use Rattle.order_run.specs.declared.turns.Phase.{Phase}
+use Rattle.order_run.specs.declared.turns.Phase.TheVariants.{Over}
 
 -- between two digits of a line: from where the line was gone on with, what is left gives the same, and nothing is printed
-pub record Digits (t k : List ℕ) (d₁ : Desk) (ph₁ : ℕ) (p₁ : Part) (f₁ o₁ : List ℕ) (n₁ i₁ : ℕ) (d : Desk) (ph : ℕ) (p : Part) (f o : List ℕ) (n i : ℕ) : Type 0 where
+pub record Digits (t k : List ℕ) (d₁ : Desk) (ph₁ : Phase) (p₁ : Part) (f₁ o₁ : List ℕ) (n₁ i₁ : ℕ) (d : Desk) (ph : Phase) (p : Part) (f o : List ℕ) (n i : ℕ) : Type 0 where
   pub within : i ≤ length t
   pub onward : i₁ ≤ i
   pub good : Good d
   pub begun : Begun p
-  pub going : ph ≡ 2 → ⊥
+  pub going : is_over ph ≡ false
   pub long : length f ≡ 1486
   pub desk : d ≡ d₁
   pub phase : ph ≡ ph₁
@@ -44,7 +46,7 @@ pub record Lines (t : List ℕ) (s₁ : St) (o₁ : List ℕ) (s : St) (o : List
   pub text : List ℕ
   pub printed : n ≡ length text
   pub out : o ≡ laid o₁ 0 text
-  pub short : (s.phase ≡ 2 → ⊥) → length text ≤ 33 * i
+  pub short : is_over s.phase ≡ false → length text ≤ 33 * i
   pub goes : after s₁ t ≡ behind text (after s (drop i t))
 
 pub lines_start : (t : List ℕ) (s : St) (o : List ℕ) → Good s.desk → Begun s.part → length s.frame ≡ 1486 → length s.kept ≡ 4096
@@ -67,8 +69,8 @@ lines_start t s o G B l k h =
 at : (t : List ℕ) (i : ℕ) → i < length t → drop i t ≡ get_or t i 0 ∷ drop (i + 1) t
 at t i h = rw (drop-cons t i 0 h, add-one i)
 
-module _ {t : List ℕ} {s₁ : St} {o₁ : List ℕ} {d : Desk} {ph : ℕ} {p : Part} {f k o : List ℕ} {n i : ℕ} where
-  pub digits_start : Lines t s₁ o₁ (st d ph p f k) o n i → length t ≤ 4096 → (ph ≡ 2 → ⊥)
+module _ {t : List ℕ} {s₁ : St} {o₁ : List ℕ} {d : Desk} {ph : Phase} {p : Part} {f k o : List ℕ} {n i : ℕ} where
+  pub digits_start : Lines t s₁ o₁ (st d ph p f k) o n i → length t ≤ 4096 → is_over ph ≡ false
       → Digits t k d ph p f o n i d ph p f o n i
   digits_start L m g =
       record {
@@ -87,7 +89,7 @@ module _ {t : List ℕ} {s₁ : St} {o₁ : List ℕ} {d : Desk} {ph : ℕ} {p :
       }
 
   -- the lines so far, and some digits
-  pub through : {d' : Desk} {ph' : ℕ} {p' : Part} {f' o' : List ℕ} {n' i' : ℕ} → Lines t s₁ o₁ (st d ph p f k) o n i
+  pub through : {d' : Desk} {ph' : Phase} {p' : Part} {f' o' : List ℕ} {n' i' : ℕ} → Lines t s₁ o₁ (st d ph p f k) o n i
       → Digits t k d ph p f o n i d' ph' p' f' o' n' i' → Lines t s₁ o₁ (st d' ph' p' f' k) o' n' i'
   through L D =
       record {
@@ -100,11 +102,11 @@ module _ {t : List ℕ} {s₁ : St} {o₁ : List ℕ} {d : Desk} {ph : ℕ} {p :
         text = L.text;
         printed = D.printed ∙ L.printed;
         out = D.out ∙ L.out;
-        short = λ g. omega (arith, L.short (λ e. g (D.phase ∙ e)), D.onward);
+        short = λ g. omega (arith, L.short (sym (ap is_over D.phase) ∙ g), D.onward);
         goes = L.goes ∙ ap (behind L.text) D.goes;
       }
 
-module _ {t k : List ℕ} {d₁ : Desk} {ph₁ : ℕ} {p₁ : Part} {f₁ o₁ : List ℕ} {n₁ i₁ : ℕ} {d : Desk} {ph : ℕ} {p : Part} {f o : List ℕ} {n i : ℕ}
+module _ {t k : List ℕ} {d₁ : Desk} {ph₁ : Phase} {p₁ : Part} {f₁ o₁ : List ℕ} {n₁ i₁ : ℕ} {d : Desk} {ph : Phase} {p : Part} {f o : List ℕ} {n i : ℕ}
     (D : Digits t k d₁ ph₁ p₁ f₁ o₁ n₁ i₁ d ph p f o n i) where
   -- some characters further on in the line
   digits_on : {p₂ : Part} {f₂ : List ℕ} {j : ℕ} → i ≤ j → j ≤ length t → Begun p₂ → length f₂ ≡ 1486
@@ -157,7 +159,7 @@ module _ {t : List ℕ} {s₁ : St} {o₁ : List ℕ} {s : St} {o : List ℕ} {n
   place : (x : Said) (r : Turn) (o' : List ℕ) → Turned x n r o o' → r.end ≡ length (L.text ++ x.text)
   place x r o' T = ap (λ (y : Turn). y.end) T.told ∙ omega (arith, L.printed, length-append L.text x.text)
 
-  pub line_done : {r : Turn} {p' : Part} {k' o' : List ℕ} → i < length t → get_or t i 0 ≡ 10 → (s.phase ≡ 2 → ⊥) → Turned (end_said s) n r o o' → k' ≡ end_kept s
+  pub line_done : {r : Turn} {p' : Part} {k' o' : List ℕ} → i < length t → get_or t i 0 ≡ 10 → is_over s.phase ≡ false → Turned (end_said s) n r o o' → k' ≡ end_kept s
       → length k' ≡ length s.kept → length o' ≡ length o → p' ≡ nothing
       → Lines t s₁ o₁ (st r.desk r.phase p' s.frame k') o' r.end (i + 1)
   line_done {r} {p'} {k'} {o'} h e g T q l m z =
@@ -173,7 +175,7 @@ module _ {t : List ℕ} {s₁ : St} {o₁ : List ℕ} {s : St} {o : List ℕ} {n
         text = L.text ++ x.text;
         printed = place x r o' T;
         out = printed_more x r o' T;
-        short = λ v. omega (arith, length-append L.text x.text, L.short g, T.short (λ y. v (ap (λ (b : Turn). b.phase) T.told ∙ y)));
+        short = λ v. omega (arith, length-append L.text x.text, L.short g, T.short (sym (ap (λ (b : Turn). is_over b.phase) T.told) ∙ v));
         goes =
             L.goes
             ∙ ap (λ (y : List ℕ). behind L.text (after s y)) (at t i h ∙ ap (λ (c : ℕ). c ∷ drop (i + 1) t) e)
@@ -197,14 +199,14 @@ module _ {t : List ℕ} {s₁ : St} {o₁ : List ℕ} {s : St} {o : List ℕ} {n
         short = λ g. omega (arith, L.short g, L.within);
       })
 
-  pub rested_over : s.phase ≡ 2 → Feeds (after s₁ t) (length t) (record { run = run_of s; printed = n }) s.frame s.kept o₁ o
+  pub rested_over : is_over s.phase ≡ true → Feeds (after s₁ t) (length t) (record { run = run_of s; printed = n }) s.frame s.kept o₁ o
   rested_over e = rested (after_over s (drop i t) e)
 
   pub rested_end : length t ≤ i → Feeds (after s₁ t) (length t) (record { run = run_of s; printed = n }) s.frame s.kept o₁ o
   rested_end h = rested (ap (after s) (drop_of_length-le t h) ∙ after_none s)
 
   -- a bad character
-  pub rested_bad : {r : Turn} {p' : Part} {o' : List ℕ} → i < length t → (get_or t i 0 ≡ 10 → ⊥) → (s.phase ≡ 2 → ⊥) → fails s.part (get_or t i 0) ≡ true
+  pub rested_bad : {r : Turn} {p' : Part} {o' : List ℕ} → i < length t → (get_or t i 0 ≡ 10 → ⊥) → is_over s.phase ≡ false → fails s.part (get_or t i 0) ≡ true
       → Turned (failed s.desk) n r o o' → p' ≡ nothing
       → Feeds (after s₁ t) (length t) (record { run = record { desk = r.desk; phase = r.phase; part = p' }; printed = r.end }) s.frame s.kept o₁ o'
   rested_bad {r} {p'} {o'} h z g f T q =
@@ -215,11 +217,11 @@ module _ {t : List ℕ} {s₁ : St} {o₁ : List ℕ} {s : St} {o : List ℕ} {n
       (record {
         told =
             ap (λ (y : Turn). record { run = record { desk = y.desk; phase = y.phase; part = p' }; printed = r.end }) T.told
-            ∙ ap (λ (y : Part). record { run = record { desk = s.desk; phase = 2; part = y }; printed = r.end }) q
-            ∙ ap (λ (y : ℕ). record { run = record { desk = s.desk; phase = 2; part = nothing }; printed = y }) (place x r o' T);
+            ∙ ap (λ (y : Part). record { run = record { desk = s.desk; phase = Over; part = y }; printed = r.end }) q
+            ∙ ap (λ (y : ℕ). record { run = record { desk = s.desk; phase = Over; part = nothing }; printed = y }) (place x r o' T);
         framed = refl;
         stored = refl;
         printed = printed_more x r o' T;
         going = record { good = T.good; begun = rw q nothing_begun };
-        short = λ v. absurd (v refl);
+        short = λ v. absurd (true≢false v);
       })

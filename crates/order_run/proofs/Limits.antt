@@ -40,12 +40,14 @@ use Rattle.order_text.specs.Text.{hex_text}
 use Rattle.order_text.proofs.Back.{decode-encode}
 use Rattle.order_text.proofs.Refused.{bad_character, odd_line, overlong_line, good_line, good_only}
 use Rattle.order_run.specs.Entry.{form_of}
-use Rattle.order_run.specs.Turns.{called, lent_back, line_text, text_of, Said, failed, request, after_form, after_receive, after_reply, kept_reply, after_frame, kept_frame, after_all}
+use Rattle.order_run.specs.Turns.{is_over, called, lent_back, line_text, text_of, Said, failed, request, after_form, after_receive, after_reply, kept_reply, after_frame, kept_frame, after_all}
 use Rattle.order_run.specs.Printed.{lines_in, said, printed}
 use Rattle.order_run.specs.Feed.{nothing, st}
 use Rattle.order_run.specs.Limits.{failing, Lines, Frame, verdict, number, with_chunk, request_line, Awaits, entered, asks, waits, Courses}
 use Rattle.order_run.proofs.Spoken.{number_0, number_1, number_2, number_last}
 use Rattle.order_run.proofs.Whole.{over_said, lines_at, said_line, said_bad}
+use Rattle.order_run.specs.declared.turns.Phase.{Phase}
+use Rattle.order_run.specs.declared.turns.Phase.TheVariants.{Entry, Reply, Over}
 
 -- ---- lines
 
@@ -75,7 +77,7 @@ abbrev alone : Transfer → ℕ → Desk
 alone t c = desk_of (queued ((0, t) ∷ []) c)
 
 abbrev goes_on : Desk → List ℕ → Said
-goes_on d text = record { desk = d; phase = 1; text = text }
+goes_on d text = record { desk = d; phase = Reply; text = text }
 
 requested : (t : Transfer) (c : ℕ) → request_due t ≡ true → request (alone t c) ≡ goes_on (alone (awaiting_of t) (following c)) (request_line c t)
 unfolding request called lent_back step judge line.settled and_then head headed seated view_of desk_of answer_for lent_after sends_with
@@ -90,7 +92,7 @@ unfit_said : (o : Order) → unfit_of o ≡ true → after_form (empty_at 1) (So
 unfolding called step judge line.settled and_then seated view_of desk_of answer_for begins_with
 unfit_said o u = rw u
 
-left_said : (t : Transfer) (c : ℕ) (kept : List ℕ) → said (alone t c) 1 kept (lines_in []) ≡ line_text (0x03 ∷ [])
+left_said : (t : Transfer) (c : ℕ) (kept : List ℕ) → said (alone t c) Reply kept (lines_in []) ≡ line_text (0x03 ∷ [])
 unfolding said lines_in after_all called step judge line.settled and_then find vacate view_of desk_of answer_for
 left_said t c kept = refl
 
@@ -168,7 +170,7 @@ text-more (r ∷ ss) s more =
     ∙ ap (λ (x : List ℕ). line_text r ++ x) (text-more ss s more)
     ∙ sym (append_assoc (line_text r) (text_of ss) (line_text s ++ more))
 
-said_frame : (d : Desk) (phase : ℕ) (kept s : List ℕ) (ls : List (List ℕ)) → (phase ≡ 2 → ⊥) → Frame s
+said_frame : (d : Desk) (phase : Phase) (kept s : List ℕ) (ls : List (List ℕ)) → is_over phase ≡ false → Frame s
     → said d phase kept (hex_text s ∷ ls)
     ≡ (after_frame phase d s kept).text
     ++ said (after_frame phase d s kept).desk (after_frame phase d s kept).phase (kept_frame phase d s kept) ls
@@ -176,28 +178,28 @@ said_frame d phase kept s ls n F = said_line (st d phase nothing [] kept) n (hex
 
 -- an entry's line, where x is what its form says
 said_entry : (d₀ entry more : List ℕ) (x : Said) → Frame entry → after_form (empty_at 1) (form_of entry) ≡ x
-    → said (empty_at 1) 0 d₀ (lines_in (text_of (entry ∷ []) ++ more)) ≡ x.text ++ said x.desk x.phase d₀ (lines_in more)
+    → said (empty_at 1) Entry d₀ (lines_in (text_of (entry ∷ []) ++ more)) ≡ x.text ++ said x.desk x.phase d₀ (lines_in more)
 unfolding after_frame kept_frame
 said_entry d₀ entry more x F e =
-    ap (λ (y : List ℕ). said (empty_at 1) 0 d₀ (lines_in (y ++ more))) (append-nil (line_text entry))
-    ∙ ap (said (empty_at 1) 0 d₀) (line_first entry more F)
-    ∙ said_frame (empty_at 1) 0 d₀ entry (lines_in more) (λ q. omega (arith, q)) F
+    ap (λ (y : List ℕ). said (empty_at 1) Entry d₀ (lines_in (y ++ more))) (append-nil (line_text entry))
+    ∙ ap (said (empty_at 1) Entry d₀) (line_first entry more F)
+    ∙ said_frame (empty_at 1) Entry d₀ entry (lines_in more) refl F
     ∙ ap (λ (y : Said). y.text ++ said y.desk y.phase d₀ (lines_in more)) e
 
 bad_entry : (d₀ entry more : List ℕ) → Frame entry → after_form (empty_at 1) (form_of entry) ≡ failed (empty_at 1)
-    → said (empty_at 1) 0 d₀ (lines_in (text_of (entry ∷ []) ++ more)) ≡ failing
+    → said (empty_at 1) Entry d₀ (lines_in (text_of (entry ∷ []) ++ more)) ≡ failing
 bad_entry d₀ entry more F e =
     said_entry d₀ entry more (failed (empty_at 1)) F e
-    ∙ ap (λ (x : List ℕ). failing ++ x) (over_said (empty_at 1) 2 d₀ (lines_in more) refl)
+    ∙ ap (λ (x : List ℕ). failing ++ x) (over_said (empty_at 1) Over d₀ (lines_in more) refl)
     ∙ append-nil failing
 
 -- a reply's line, where x is what its answer says
 said_reply : (t : Transfer) (c : ℕ) (s kept : List ℕ) (ls : List (List ℕ)) (x : Said) → request_due t ≡ false → Frame s → length kept ≡ 4096
     → x ≡ after_receive (called_by t c (verdict t s)) (stored (verdict t s) s t.sum kept)
-    → said (alone t c) 1 kept (hex_text s ∷ ls) ≡ x.text ++ said x.desk x.phase (stored (verdict t s) s t.sum kept) ls
+    → said (alone t c) Reply kept (hex_text s ∷ ls) ≡ x.text ++ said x.desk x.phase (stored (verdict t s) s t.sum kept) ls
 unfolding after_frame kept_frame
 said_reply t c s kept ls x w F long e =
-    said_frame (alone t c) 1 kept s ls (λ q. omega (arith, q)) F
+    said_frame (alone t c) Reply kept s ls refl F
     ∙ ap (λ (y : Said). y.text ++ said y.desk y.phase (kept_reply (alone t c) s kept) ls) (reply_said t c s kept w F.1 long ∙ sym e)
     ∙ ap (λ (k : List ℕ). x.text ++ said x.desk x.phase k ls) (reply_kept t c s kept w F.1 long)
 
@@ -218,7 +220,7 @@ take_holding p d =
 
 module _ (d₀ : List ℕ) (all : length d₀ ≡ 4096) (entry : List ℕ) (o : Order) where
   abbrev from_start : List ℕ → List ℕ
-  from_start text = said (empty_at 1) 0 d₀ (lines_in text)
+  from_start text = said (empty_at 1) Entry d₀ (lines_in text)
 
   -- after an entry and the replies ss: what their lines say, and what lies in the data buffer, which was d₀
   record Stands (ss : List (List ℕ)) (t : Transfer) (c : ℕ) (text payload : List ℕ) : Type 0 where
@@ -227,7 +229,7 @@ module _ (d₀ : List ℕ) (all : length d₀ ≡ 4096) (entry : List ℕ) (o : 
     segments : ℕ
     filled : Filled o d₀ t replies segments payload kept
     due : request_due t ≡ false
-    on : (more : List ℕ) → from_start (text_of (entry ∷ ss) ++ more) ≡ text ++ said (alone t c) 1 kept (lines_in more)
+    on : (more : List ℕ) → from_start (text_of (entry ∷ ss) ++ more) ≡ text ++ said (alone t c) Reply kept (lines_in more)
 
   entry_stands : Frame entry → form_of entry ≡ Some o → unfit_of o ≡ false → Stands [] (awaiting_of (opened_of o)) 2 (request_line 1 (opened_of o)) []
   entry_stands F f u =
@@ -256,12 +258,12 @@ module _ (d₀ : List ℕ) (all : length d₀ ≡ 4096) (entry : List ℕ) (o : 
       one_more x e more =
           ap from_start (text-more (entry ∷ ss) s more)
           ∙ S.on (line_text s ++ more)
-          ∙ ap (λ (ls : List (List ℕ)). text ++ said (alone t c) 1 S.kept ls) (line_first s more F)
+          ∙ ap (λ (ls : List (List ℕ)). text ++ said (alone t c) Reply S.kept ls) (line_first s more F)
           ∙ ap (λ (y : List ℕ). text ++ y) (said_reply t c s S.kept (lines_in more) x S.due F long e)
           ∙ sym (append_assoc text x.text (said x.desk x.phase after (lines_in more)))
 
       -- the last: nothing is printed behind it
-      last_one : (x : Said) → x ≡ after_receive (called_by t c (verdict t s)) after → x.phase ≡ 2 → (surplus : List ℕ)
+      last_one : (x : Said) → x ≡ after_receive (called_by t c (verdict t s)) after → is_over x.phase ≡ true → (surplus : List ℕ)
           → from_start (text_of (entry ∷ ss ++ s ∷ []) ++ surplus) ≡ text ++ x.text
       last_one x e p surplus =
           one_more x e surplus
@@ -308,7 +310,7 @@ module _ (d₀ : List ℕ) (all : length d₀ ≡ 4096) (entry : List ℕ) (o : 
                 one_more (goes_on (alone u c) [])
                 (ap (λ (d : Desk). goes_on d []) (sym (moved e))
                 ∙ number_2 (called_by t c (verdict t s)) after (λ z. omega (arith, n, z)) (λ z. omega (arith, n, z)) n) more
-                ∙ ap (λ (x : List ℕ). x ++ said (alone u c) 1 after (lines_in more)) (append-nil text);
+                ∙ ap (λ (x : List ℕ). x ++ said (alone u c) Reply after (lines_in more)) (append-nil text);
           }
 
       -- behind 00 stands the payload, as far as the buffer reaches

@@ -2,9 +2,8 @@
 use Prim.Native.Nat.{ℕ}
 use mathlib.Core.Path.{◌≡◌, refl, sym, ap, ◌∙◌}
 use mathlib.Core.List.{List, [], ◌∷◌, ◌++◌, append_assoc}
-use lib.Dec.{eqb}
-use borrow.Author.Tests.{eqb-true}
 use Rattle.wire.proofs.Cases.{by}
+use Rattle.order_run.specs.Turns.{is_over}
 use Rattle.order_run.specs.Feed.{St, Did, behind, after_char, after, finished, in_pieces, joined}
 use Rattle.order_run.proofs.Characters.{after_over}
 
@@ -13,8 +12,8 @@ pub after-append : (a b : List ℕ) (s : St) → after s (a ++ b) ≡ behind (af
 unfolding after
 after-append [] b s = refl
 after-append (c ∷ a) b s =
-    by (eqb s.phase 2)
-    (λ e. rw e (sym (ap (behind []) (after_over s b (eqb-true s.phase 2 e)))))
+    by (is_over s.phase)
+    (λ e. rw e (sym (ap (behind []) (after_over s b e))))
     (λ e. rw e
     (ap (behind (after_char s c).text) (after-append a b (after_char s c).st)
     ∙ ap (λ (x : List ℕ). record { st = (after (after (after_char s c).st a).st b).st; text = x })

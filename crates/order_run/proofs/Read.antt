@@ -3,7 +3,7 @@ use Prim.Native.Nat.{ℕ}
 use mathlib.Core.Path.{◌≡◌, refl, sym, ap, ◌∙◌}
 use mathlib.Core.List.{List}
 use native.Mathlib.Omega.{arith}
-use Rattle.std.specs.Prelude.{Some}
+use Rattle.std.specs.Prelude.{true, false, Some}
 use borrow.Author.Tests.{eq-eqb, ne_eqb}
 use Rattle.wire.specs.Words.{pick}
 use Rattle.wire.proofs.Cases.{by}
@@ -22,8 +22,9 @@ use Rattle.desk.specs.declared.Called.{Called}
 use Rattle.desk.specs.declared.change.Change.{Change}
 use Rattle.desk.proofs.Kept.{gives}
 use Rattle.order_run.specs.Entry.{form_of}
-use Rattle.order_run.specs.Turns.{called, lent_back, failed, request, after_enter, after_form, after_receive, after_reply, kept_reply, after_frame, kept_frame, Says}
+use Rattle.order_run.specs.Turns.{is_entry, called, lent_back, failed, request, after_enter, after_form, after_receive, after_reply, kept_reply, after_frame, kept_frame, Says}
 use Rattle.order_run.proofs.Spoken.{number_1}
+use Rattle.order_run.specs.declared.turns.Phase.{Phase}
 
 -- ---- an entry
 
@@ -81,11 +82,11 @@ module _ {d : Desk} {s k k' : List ℕ} {c : Change} (g : Good d) (G : ChangesLe
   unfolding kept_reply lent_back
   reply_kept = G.lent
 
-module _ (p : ℕ) (d : Desk) (s k : List ℕ) where
-  pub frame_entry : p ≡ 0 → (after_form d (form_of s) ≡ after_frame p d s k) × (k ≡ kept_frame p d s k)
+module _ (p : Phase) (d : Desk) (s k : List ℕ) where
+  pub frame_entry : is_entry p ≡ true → (after_form d (form_of s) ≡ after_frame p d s k) × (k ≡ kept_frame p d s k)
   unfolding after_frame kept_frame
-  frame_entry e = (sym (rw (eq-eqb p 0 e)), sym (rw (eq-eqb p 0 e)))
+  frame_entry e = (sym (rw e), sym (rw e))
 
-  pub frame_reply : (p ≡ 0 → ⊥) → (after_reply d s k ≡ after_frame p d s k) × (kept_reply d s k ≡ kept_frame p d s k)
+  pub frame_reply : is_entry p ≡ false → (after_reply d s k ≡ after_frame p d s k) × (kept_reply d s k ≡ kept_frame p d s k)
   unfolding after_frame kept_frame
-  frame_reply e = (sym (rw (ne_eqb p 0 e)), sym (rw (ne_eqb p 0 e)))
+  frame_reply e = (sym (rw e), sym (rw e))

@@ -1,7 +1,7 @@
 -- What is printed for each answer of the desk. Assumes nothing.
 use Prim.Native.Nat.{ℕ, ◌+◌, ◌-◌, ◌*◌, ◌≤◌, min}
 use mathlib.Core.Path.{◌≡◌, refl, sym, ap, ◌∙◌, subst}
-use mathlib.Core.Bool.{true, false, false≢true}
+use mathlib.Core.Bool.{true, false, true≢false, false≢true}
 use mathlib.Core.List.{List, [], ◌∷◌, ◌++◌}
 use native.Mathlib.Omega.{arith}
 use lib.Dec.{eqb}
@@ -20,36 +20,38 @@ use Rattle.desk.specs.declared.record.Slot.{Slot}
 use Rattle.desk.proofs.Moved.{moved_none}
 use Rattle.judge.proofs.Laid.{laid_join, laid_nil}
 use Rattle.order_text.specs.Text.{hex_text, text_in}
-use Rattle.order_run.specs.Turns.{called, lent_back, line_text, Said, last, failed, sending, request, after_receive, after_all, Tells, quiet, Turned}
+use Rattle.order_run.specs.Turns.{is_entry, called, lent_back, line_text, Said, last, failed, sending, request, after_receive, after_all, Tells, quiet, Turned}
 use Rattle.order_run.specs.declared.turns.Turn.{Turn}
 use Rattle.order_run.proofs.Printing.{length_line, all_text, take_least}
+use Rattle.order_run.specs.declared.turns.Phase.{Phase}
+use Rattle.order_run.specs.declared.turns.Phase.TheVariants.{Reply, Over}
 
 pub turned_as : {x y : Said} {at : ℕ} {r : Turn} {o o' : List ℕ} → x ≡ y → Turned x at r o o' → Turned y at r o o'
 turned_as {at = at} {r = r} {o = o} {o' = o'} e T = subst (λ (s : Said). Turned s at r o o') e T
 
 -- ---- the lines that are printed
 
-abbrev turn : Desk → ℕ → ℕ → Turn
+abbrev turn : Desk → Phase → ℕ → Turn
 turn d p e = record { desk = d; phase = p; end = e }
 
-pub turned_at : {x : Said} {at p q e f : ℕ} {d d' : Desk} {o o₁ o₂ : List ℕ} → d ≡ d' → p ≡ q → e ≡ f → o₁ ≡ o₂
+pub turned_at : {x : Said} {at e f : ℕ} {p q : Phase} {d d' : Desk} {o o₁ o₂ : List ℕ} → d ≡ d' → p ≡ q → e ≡ f → o₁ ≡ o₂
     → Turned x at (turn d' q f) o o₂ → Turned x at (turn d p e) o o₁
 turned_at {x} {at} {o = o} a b c g T = subst (λ (r : Turn × List ℕ). Turned x at r.0 o r.1) (λ i. (turn (sym a i) (sym b i) (sym c i), sym g i)) T
 
 pub last_turned : (d : Desk) (s o o' : List ℕ) (at e : ℕ) → Good d → at + 2 * length s + 1 ≤ length o → e ≡ at + length (line_text s) → o' ≡ laid o at (line_text s)
-    → Turned (last d s) at (turn d 2 e) o o'
+    → Turned (last d s) at (turn d Over e) o o'
 last_turned d s o o' at e G h p q =
-    record { told = ap (turn d 2) p; printed = q; good = G; fits = omega (arith, length_line s); short = λ n. absurd (n refl) }
+    record { told = ap (turn d Over) p; printed = q; good = G; fits = omega (arith, length_line s); short = λ n. absurd (true≢false n) }
 
 pub request_turned : (d : Desk) (r : Called) (f o o' : List ℕ) (at e : ℕ) → GivesLent d sending r (replicate 16 0) f → length f ≡ 16
-    → at + 33 ≤ length o → e ≡ at + length (line_text f) → o' ≡ laid o at (line_text f) → Turned (request d) at (turn r.desk 1 e) o o'
+    → at + 33 ≤ length o → e ≡ at + length (line_text f) → o' ≡ laid o at (line_text f) → Turned (request d) at (turn r.desk Reply e) o o'
 unfolding request called lent_back
 request_turned d r f o o' at e G l h p q =
     let n : length (line_text (lent_back d sending (replicate 16 0))) ≡ 33 = omega (arith, ap (λ (s : List ℕ). length (line_text s)) G.lent, length_line f, l) in
     record {
       told =
-          ap (λ (c : Called). turn c.desk 1 e) G.told
-          ∙ ap (turn (called d sending).desk 1) (p ∙ ap (λ (s : List ℕ). at + length (line_text s)) G.lent);
+          ap (λ (c : Called). turn c.desk Reply e) G.told
+          ∙ ap (turn (called d sending).desk Reply) (p ∙ ap (λ (s : List ℕ). at + length (line_text s)) G.lent);
       printed = q ∙ ap (λ (s : List ℕ). laid o at (line_text s)) G.lent;
       good = G.good;
       fits = omega (arith, n);
@@ -68,7 +70,7 @@ zero_first s = refl
 pub done_turned : (d : Desk) (k o o₁ o₂ : List ℕ) (at from e p stored : ℕ) → Good d → at + 2 * length k + 3 ≤ length o
     → stored ≡ min p (length k) → from ≡ at + length (text_in (length o - at) (0 ∷ [])) → o₁ ≡ laid o at (text_in (length o - at) (0 ∷ []))
     → e ≡ from + length (line_text (take stored k)) → o₂ ≡ laid o₁ from (line_text (take stored k))
-    → Turned (last d (0 ∷ take p k)) at (turn d 2 e) o o₂
+    → Turned (last d (0 ∷ take p k)) at (turn d Over e) o o₂
 done_turned d k o o₁ o₂ at from e p stored G h m f q g r =
     let z : text_in (length o - at) (0 ∷ []) ≡ hex_text (0 ∷ []) = all_text (length o - at) (0 ∷ []) (omega arith) in
     let t : take stored k ≡ take p k = ap (λ (n : ℕ). take n k) m ∙ take_least p k in
@@ -98,11 +100,11 @@ done_room k o at from stored n h f l =
 
 -- nothing is printed
 abbrev quietly : Desk → Said
-quietly d = record { desk = d; phase = 1; text = [] }
+quietly d = record { desk = d; phase = Reply; text = [] }
 
-pub still_turned : (d : Desk) (o : List ℕ) (at : ℕ) → Good d → at ≤ length o → Turned (quietly d) at (turn d 1 at) o o
+pub still_turned : (d : Desk) (o : List ℕ) (at : ℕ) → Good d → at ≤ length o → Turned (quietly d) at (turn d Reply at) o o
 still_turned d o at G h =
-    record { told = ap (turn d 1) (omega arith); printed = laid_nil o at; good = G; fits = omega arith; short = λ n. omega arith }
+    record { told = ap (turn d Reply) (omega arith); printed = laid_nil o at; good = G; fits = omega arith; short = λ n. omega arith }
 
 -- ---- the numbers of the answers
 
@@ -151,18 +153,18 @@ slot_set d c W q =
     ap (λ (l : List Slot). record { line = set l c.at c.slot; waiting = c.waiting; counter = c.counter }) m ∙ sym (rw i.0)
 
 pub quiet_turned : {d : Desk} {x : Said} {c : Change} {k : List ℕ} (o : List ℕ) (at : ℕ) → Tells d x c k → quiet c ≡ true → at ≤ length o
-    → Turned x at (turn (record { line = set d.line c.at c.slot; waiting = c.waiting; counter = c.counter }) 1 at) o o
+    → Turned x at (turn (record { line = set d.line c.at c.slot; waiting = c.waiting; counter = c.counter }) Reply at) o o
 quiet_turned {d} {x} {c} {k} o at S q h =
     let n = (quiet_is c q).2 in
     let s = number_2 (called_by c d) k (λ e. omega (arith, n, e)) (λ e. omega (arith, n, e)) n ∙ S.told in
     turned_as s
-    (subst (λ (e : Desk). Turned (quietly (changed_by c d)) at (turn e 1 at) o o) (sym (slot_set d c S.within q)) (still_turned (changed_by c d) o at S.good h))
+    (subst (λ (e : Desk). Turned (quietly (changed_by c d)) at (turn e Reply at) o o) (sym (slot_set d c S.within q)) (still_turned (changed_by c d) o at S.good h))
 
-module _ (p : ℕ) (d : Desk) where
-  pub all_none : p ≡ 0 → failed d ≡ after_all p d
+module _ (p : Phase) (d : Desk) where
+  pub all_none : is_entry p ≡ true → failed d ≡ after_all p d
   unfolding after_all
-  all_none e = sym (rw (eq-eqb p 0 e))
+  all_none e = sym (rw e)
 
-  pub all_left : (r : Called) → (p ≡ 0 → ⊥) → Gives d (leave 0) r → last r.desk (r.answer.number ∷ []) ≡ after_all p d
+  pub all_left : (r : Called) → is_entry p ≡ false → Gives d (leave 0) r → last r.desk (r.answer.number ∷ []) ≡ after_all p d
   unfolding after_all called
-  all_left r e G = ap (λ (c : Called). last c.desk (c.answer.number ∷ [])) G.told ∙ sym (rw (ne_eqb p 0 e))
+  all_left r e G = ap (λ (c : Called). last c.desk (c.answer.number ∷ [])) G.told ∙ sym (rw e)

@@ -17,7 +17,7 @@ use Rattle.order_text.specs.Lines.{has_bad, bytes_of, good, bad, line_of}
 use Rattle.order_text.proofs.Digits.{byte_digits}
 use Rattle.order_text.proofs.Lines.{head_digit, tail_good}
 use Rattle.order_text.proofs.Refused.{bad_character, odd_line, overlong_line, good_line, has_bad_lem}
-use Rattle.order_run.specs.Turns.{Said, failed, after_line, kept_line}
+use Rattle.order_run.specs.Turns.{is_over, Said, failed, after_line, kept_line}
 use Rattle.order_run.specs.Printed.{lines_in, said, printed}
 use Rattle.order_run.specs.Feed.{nothing, St, st, Did, behind, end_said, end_kept, ended, stopped, fails, put_frame, put, after, begun, line_ended, closed, finished, in_pieces, joined, st_of, AsPrinted}
 use Rattle.order_run.specs.declared.digits.Part.{Part}
@@ -26,24 +26,26 @@ use Rattle.order_run.proofs.Parts.{fails_room, fails_not, put_first, put_second}
 use Rattle.order_run.proofs.Characters.{after_over, after_none, after_line_lem, after_put, after_bad, put_digit, no_line_end, end_whole, end_odd}
 use Rattle.order_run.proofs.Closing.{begun_bytes, begun_digit}
 use Rattle.order_run.proofs.Pieces.{total, pieces}
+use Rattle.order_run.specs.declared.turns.Phase.{Phase}
+use Rattle.order_run.specs.declared.turns.Phase.TheVariants.{Entry, Over}
 
 -- ---- a run that is over prints nothing more
 
-over_finished : (s : St) → s.phase ≡ 2 → (finished s).text ≡ []
+over_finished : (s : St) → is_over s.phase ≡ true → (finished s).text ≡ []
 unfolding finished line_ended closed
 over_finished s e =
     by (begun s.part)
-    (λ b. rw (b, after_over s (10 ∷ []) e, eq-eqb s.phase 2 e))
-    (λ b. rw (b, eq-eqb s.phase 2 e))
+    (λ b. rw (b, after_over s (10 ∷ []) e, e))
+    (λ b. rw (b, e))
 
-over_total : (s : St) (t : List ℕ) → s.phase ≡ 2 → total s t ≡ []
+over_total : (s : St) (t : List ℕ) → is_over s.phase ≡ true → total s t ≡ []
 unfolding total
 over_total s t e = rw (after_over s t e) (over_finished s e)
 
-pub over_said : (d : Desk) (ph : ℕ) (k : List ℕ) (ls : List (List ℕ)) → ph ≡ 2 → said d ph k ls ≡ []
+pub over_said : (d : Desk) (ph : Phase) (k : List ℕ) (ls : List (List ℕ)) → is_over ph ≡ true → said d ph k ls ≡ []
 unfolding said
-over_said d ph k [] e = rw (eq-eqb ph 2 e)
-over_said d ph k (l ∷ ls) e = rw (eq-eqb ph 2 e)
+over_said d ph k [] e = rw (e)
+over_said d ph k (l ∷ ls) e = rw (e)
 
 -- ---- a line so far
 
@@ -174,7 +176,7 @@ fails_bad s {w} c r P f =
 
 -- ---- by lines
 
-module _ (s : St) (n : s.phase ≡ 2 → ⊥) where
+module _ (s : St) (n : is_over s.phase ≡ false) where
   total_line : (t : List ℕ) → total s (10 ∷ t) ≡ (end_said s).text ++ total (ended s).st t
   unfolding total
   total_line t =
@@ -196,7 +198,7 @@ module _ (s : St) (n : s.phase ≡ 2 → ⊥) where
       ≡ (after_line s.phase s.desk (line_of 1486 l) s.kept).text
       ++ said (after_line s.phase s.desk (line_of 1486 l) s.kept).desk (after_line s.phase s.desk (line_of 1486 l) s.kept).phase (kept_line s.phase s.desk (line_of 1486 l) s.kept) ls
   unfolding said
-  said_line l ls = rw (ne_eqb s.phase 2 n)
+  said_line l ls = rw (n)
 
   -- a line that the run has read whole
   said_whole : {w : List ℕ} (ls : List (List ℕ)) → Partly s w
@@ -210,7 +212,7 @@ module _ (s : St) (n : s.phase ≡ 2 → ⊥) where
   pub said_bad : (l : List ℕ) (ls : List (List ℕ)) → line_of 1486 l ≡ bad → said s.desk s.phase s.kept (l ∷ ls) ≡ (failed s.desk).text
   said_bad l ls e =
       said_line l ls ∙ rw e
-      (ap (λ (x : List ℕ). (failed s.desk).text ++ x) (over_said s.desk 2 s.kept ls refl) ∙ append-nil (failed s.desk).text)
+      (ap (λ (x : List ℕ). (failed s.desk).text ++ x) (over_said s.desk Over s.kept ls refl) ∙ append-nil (failed s.desk).text)
 
 -- ---- the input's end
 
@@ -220,9 +222,9 @@ nothing_there = refl
 
 finished_none : (s : St) → begun s.part ≡ false → (finished s).text ≡ said s.desk s.phase s.kept []
 unfolding finished line_ended closed said
-finished_none s e = rw e (by (eqb s.phase 2) (λ q. rw q) (λ q. rw q))
+finished_none s e = rw e (by (is_over s.phase) (λ q. rw q) (λ q. rw q))
 
-module _ (s : St) (n : s.phase ≡ 2 → ⊥) where
+module _ (s : St) (n : is_over s.phase ≡ false) where
   finished_begun : begun s.part ≡ true → (finished s).text ≡ (end_said s).text ++ (finished (ended s).st).text
   unfolding finished line_ended begun
   finished_begun b =
@@ -270,13 +272,13 @@ by_lines : (t : List ℕ) (s : St) {w : List ℕ} → length s.frame ≡ 1486 �
     → total s t ≡ said s.desk s.phase s.kept (lines_in (w ++ t))
 unfolding total after
 by_lines [] s {w} m P =
-    by (eqb s.phase 2)
-    (λ q. let e = eqb-true s.phase 2 q in over_finished s e ∙ sym (over_said s.desk s.phase s.kept (lines_in (w ++ [])) e))
-    (λ q. by_end s (eqb-false s.phase 2 q) P)
+    by (is_over s.phase)
+    (λ q. let e = q in over_finished s e ∙ sym (over_said s.desk s.phase s.kept (lines_in (w ++ [])) e))
+    (λ q. by_end s q P)
 by_lines (c ∷ t) s {w} m P =
-    by (eqb s.phase 2)
-    (λ q. let e = eqb-true s.phase 2 q in over_total s (c ∷ t) e ∙ sym (over_said s.desk s.phase s.kept (lines_in (w ++ c ∷ t)) e))
-    (λ q. let n = eqb-false s.phase 2 q in
+    by (is_over s.phase)
+    (λ q. let e = q in over_total s (c ∷ t) e ∙ sym (over_said s.desk s.phase s.kept (lines_in (w ++ c ∷ t)) e))
+    (λ q. let n = q in
     by (eqb c 10)
     (λ z. let e = eqb-true c 10 z in
     ap (λ (x : ℕ). total s (x ∷ t)) e
@@ -299,7 +301,7 @@ by_lines (c ∷ t) s {w} m P =
 pub as_printed : AsPrinted
 unfolding printed
 as_printed r S f l ps =
-    let s = st (empty_at 1) 0 nothing f (replicate 4096 0) in
+    let s = st (empty_at 1) Entry nothing f (replicate 4096 0) in
     ap (λ (x : Run). in_pieces (st_of x f (replicate 4096 0)) ps) S.told
     ∙ pieces ps s
     ∙ by_lines (joined ps) s l (whole [] refl (no_pairs f))

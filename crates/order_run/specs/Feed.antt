@@ -8,9 +8,11 @@ use Rattle.desk.specs.Record.{empty_at, Good}
 use Rattle.desk.specs.declared.Desk.{Desk}
 use Rattle.order_text.specs.Digits.{digit_of}
 use Rattle.order_text.specs.Lines.{has_bad, bytes_of}
-use Rattle.order_run.specs.Turns.{Said, failed, after_frame, kept_frame, after_all}
+use Rattle.order_run.specs.Turns.{Said, is_over, failed, after_frame, kept_frame, after_all}
 use Rattle.order_run.specs.Printed.{printed}
 use Rattle.order_run.specs.declared.digits.Part.{Part}
+use Rattle.order_run.specs.declared.turns.Phase.{Phase}
+use Rattle.order_run.specs.declared.turns.Phase.TheVariants.{Entry}
 use Rattle.order_run.specs.declared.Run.{Run}
 use Rattle.order_run.specs.declared.Fed.{Fed}
 
@@ -24,12 +26,12 @@ nothing = part 0 16
 -- where a run stands, with its frame and its data buffer
 pub record St : Type 0 where
   pub desk : Desk
-  pub phase : ℕ
+  pub phase : Phase
   pub part : Part
   pub frame : List ℕ
   pub kept : List ℕ
 
-abbrev pub st : Desk → ℕ → Part → List ℕ → List ℕ → St
+abbrev pub st : Desk → Phase → Part → List ℕ → List ℕ → St
 st d phase p frame kept = record { desk = d; phase = phase; part = p; frame = frame; kept = kept }
 
 pub record Did : Type 0 where
@@ -84,7 +86,7 @@ after_char s c =
 -- a piece; "Surplus lines are not read."
 unfoldable pub after : St → List ℕ → Did
 after s [] = record { st = s; text = [] }
-after s (c ∷ t) = pick (eqb s.phase 2) (record { st = s; text = [] }) (behind (after_char s c).text (after (after_char s c).st t))
+after s (c ∷ t) = pick (is_over s.phase) (record { st = s; text = [] }) (behind (after_char s c).text (after (after_char s c).st t))
 
 -- the input's end: a last line that lacks its line end, and then what is left to say
 unfoldable pub begun : Part → Bool
@@ -94,7 +96,7 @@ unfoldable pub line_ended : St → Did
 line_ended s = pick (begun s.part) (after s (10 ∷ [])) (record { st = s; text = [] })
 
 unfoldable pub closed : St → Did
-closed s = pick (eqb s.phase 2) (record { st = s; text = [] }) (read (after_all s.phase s.desk) s.frame s.kept)
+closed s = pick (is_over s.phase) (record { st = s; text = [] }) (read (after_all s.phase s.desk) s.frame s.kept)
 
 unfoldable pub finished : St → Did
 finished s = behind (line_ended s).text (closed (line_ended s).st)
@@ -138,7 +140,7 @@ pub record Going (r : Run) : Type 0 where
 
 -- a fresh run
 pub record Starts (r : Run) : Type 0 where
-  pub told : r ≡ record { desk = empty_at 1; phase = 0; part = nothing }
+  pub told : r ≡ record { desk = empty_at 1; phase = Entry; part = nothing }
   pub going : Going r
 
 abbrev pub st_of : Run → List ℕ → List ℕ → St
@@ -154,7 +156,7 @@ pub record Feeds (x : Did) (n : ℕ) (r : Fed) (frame kept out out' : List ℕ) 
   pub stored : kept ≡ x.st.kept
   pub printed : out' ≡ laid out 0 x.text
   pub going : Going r.run
-  pub short : (x.st.phase ≡ 2 → ⊥) → length x.text ≤ 33 * n
+  pub short : is_over x.st.phase ≡ false → length x.text ≤ 33 * n
 
 -- ---- the whole program
 

@@ -18,8 +18,9 @@ use Rattle.transfer.specs.declared.Transfer.{Transfer}
 use Rattle.desk.specs.declared.Desk.{Desk}
 use Rattle.order_text.specs.Lines.{has_bad, bytes_of}
 use Rattle.order_run.specs.Entry.{form_of}
-use Rattle.order_run.specs.Turns.{line_text, text_of, after_frame, kept_frame}
+use Rattle.order_run.specs.Turns.{is_over, line_text, text_of, after_frame, kept_frame}
 use Rattle.order_run.specs.Printed.{said, printed}
+use Rattle.order_run.specs.declared.turns.Phase.{Phase}
 
 -- "print `ff` as its last line and stop"
 abbrev pub failing : List ℕ
@@ -28,7 +29,7 @@ failing = line_text (0xff ∷ [])
 -- ---- "lines of lower-case hexadecimal, one frame a line, at most 1,486 bytes each"
 
 -- a line that the run reads at a desk, in a phase and with a data buffer, and lines behind it
-pub record Line (d : Desk) (phase : ℕ) (kept l : List ℕ) (ls : List (List ℕ)) : Type 0 where
+pub record Line (d : Desk) (phase : Phase) (kept l : List ℕ) (ls : List (List ℕ)) : Type 0 where
   -- 1,486 bytes are 2,972 digits: up to that, an even line says what its bytes say
   pub frame : has_bad l ≡ false → length l % 2 ≡ 0 → length l ≤ 2972
       → said d phase kept (l ∷ ls)
@@ -40,7 +41,7 @@ pub record Line (d : Desk) (phase : ℕ) (kept l : List ℕ) (ls : List (List �
   pub overlong : 2972 < length l → said d phase kept (l ∷ ls) ≡ failing
 
 abbrev pub Lines : Type 0
-Lines = (d : Desk) (phase : ℕ) (kept l : List ℕ) (ls : List (List ℕ)) → (phase ≡ 2 → ⊥) → Line d phase kept l ls
+Lines = (d : Desk) (phase : Phase) (kept l : List ℕ) (ls : List (List ℕ)) → is_over phase ≡ false → Line d phase kept l ls
 
 -- ---- "It prints each request, then the last number and, after 00, the stored payload."
 

@@ -5,7 +5,9 @@ use Rattle.wire.specs.Words.{pick}
 use Rattle.desk.specs.Record.{empty_at}
 use Rattle.desk.specs.declared.Desk.{Desk}
 use Rattle.order_text.specs.Lines.{line_of}
-use Rattle.order_run.specs.Turns.{after_line, kept_line, after_all}
+use Rattle.order_run.specs.Turns.{is_over, after_line, kept_line, after_all}
+use Rattle.order_run.specs.declared.turns.Phase.{Phase}
+use Rattle.order_run.specs.declared.turns.Phase.TheVariants.{Entry}
 
 -- the lines of a text: "the last line may lack its line end", and behind the last line end is no line
 abbrev pub before : ℕ → List (List ℕ) → List (List ℕ)
@@ -17,12 +19,12 @@ lines_in [] = []
 lines_in (c ∷ t) = pick (eqb c 10) ([] ∷ lines_in t) (before c (lines_in t))
 
 -- what the lines print, from a desk, a phase and a data buffer on; "Surplus lines are not read."
-unfoldable pub said : Desk → ℕ → List ℕ → List (List ℕ) → List ℕ
-said d phase kept [] = pick (eqb phase 2) [] (after_all phase d).text
+unfoldable pub said : Desk → Phase → List ℕ → List (List ℕ) → List ℕ
+said d phase kept [] = pick (is_over phase) [] (after_all phase d).text
 said d phase kept (l ∷ ls) =
-    pick (eqb phase 2) []
+    pick (is_over phase) []
     ((after_line phase d (line_of 1486 l) kept).text
     ++ said (after_line phase d (line_of 1486 l) kept).desk (after_line phase d (line_of 1486 l) kept).phase (kept_line phase d (line_of 1486 l) kept) ls)
 
 unfoldable pub printed : List ℕ → List ℕ
-printed text = said (empty_at 1) 0 (replicate 4096 0) (lines_in text)
+printed text = said (empty_at 1) Entry (replicate 4096 0) (lines_in text)

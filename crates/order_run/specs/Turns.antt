@@ -1,6 +1,6 @@
 -- What a line of an order file does and prints, by the desk's calls at seat 0. Document 01, "The order program": "It uses seat 0, a 16-byte
 -- frame buffer, a data buffer of 4,096 bytes". Assumes nothing.
-use Rattle.std.specs.Prelude.{ℕ, ◌+◌, ◌≤◌, ◌≡◌, Bool, false, List, [], ◌∷◌, ◌++◌, eqb, leb, length, take, replicate, Option, Some, None}
+use Rattle.std.specs.Prelude.{ℕ, ◌+◌, ◌≤◌, ◌≡◌, Bool, true, false, List, [], ◌∷◌, ◌++◌, eqb, leb, length, take, replicate, Option, Some, None}
 use Rattle.wire.specs.Words.{pick}
 use Rattle.wire.specs.Store.{laid}
 use Rattle.line.specs.Desk.{Call, enter, send, receive, leave, step}
@@ -15,6 +15,8 @@ use Rattle.order_text.specs.Text.{hex_text}
 use Rattle.order_text.specs.Lines.{Line, good, bad}
 use Rattle.order_run.specs.Entry.{form_of}
 use Rattle.transfer.specs.declared.Order.{Order}
+use Rattle.order_run.specs.declared.turns.Phase.{Phase}
+use Rattle.order_run.specs.declared.turns.Phase.TheVariants.{Entry, Reply, Over}
 use Rattle.order_run.specs.declared.turns.Turn.{Turn}
 
 -- what a call gives back, and the buffer b that it was lent, as it is afterwards
@@ -33,15 +35,25 @@ abbrev pub text_of : List (List ℕ) → List ℕ
 text_of [] = []
 text_of (s ∷ ss) = line_text s ++ text_of ss
 
--- the run awaits its entry (0) or a reply (1), or is over (2)
+-- the run awaits its entry, or a reply, or is over
+abbrev pub is_entry : Phase → Bool
+is_entry Entry = true
+is_entry Reply = false
+is_entry Over = false
+
+abbrev pub is_over : Phase → Bool
+is_over Entry = false
+is_over Reply = false
+is_over Over = true
+
 pub record Said : Type 0 where
   pub desk : Desk
-  pub phase : ℕ
+  pub phase : Phase
   pub text : List ℕ
 
 -- the bytes are the last line
 abbrev pub last : Desk → List ℕ → Said
-last d s = record { desk = d; phase = 2; text = line_text s }
+last d s = record { desk = d; phase = Over; text = line_text s }
 
 -- "makes it print `ff` as its last line and stop"
 abbrev pub failed : Desk → Said
@@ -52,7 +64,7 @@ abbrev pub sending : Call coe_machine
 sending = send 0 (replicate 16 0)
 
 unfoldable pub request : Desk → Said
-request d = record { desk = (called d sending).desk; phase = 1; text = line_text (lent_back d sending (replicate 16 0)) }
+request d = record { desk = (called d sending).desk; phase = Reply; text = line_text (lent_back d sending (replicate 16 0)) }
 
 -- "a bad entry (none at all, no listed form, or answered 15)"; a fresh desk answers an entry 01 or 15
 abbrev pub after_enter : Called → Said
@@ -67,7 +79,7 @@ unfoldable pub after_receive : Called → List ℕ → Said
 after_receive c kept =
     pick (eqb c.answer.number 0x00) (last c.desk (0x00 ∷ take c.answer.length kept))
     (pick (eqb c.answer.number 0x01) (request c.desk)
-    (pick (eqb c.answer.number 0x02) (record { desk = c.desk; phase = 1; text = [] })
+    (pick (eqb c.answer.number 0x02) (record { desk = c.desk; phase = Reply; text = [] })
     (last c.desk (c.answer.number ∷ []))))
 
 -- a reply judged where the data buffer holds kept, and what the buffer holds afterwards
@@ -78,24 +90,24 @@ unfoldable pub kept_reply : Desk → List ℕ → List ℕ → List ℕ
 kept_reply d s kept = lent_back d (receive 0 (s, kept)) kept
 
 -- "Line one is the entry", "The others are replies."
-unfoldable pub after_frame : ℕ → Desk → List ℕ → List ℕ → Said
-after_frame phase d s kept = pick (eqb phase 0) (after_form d (form_of s)) (after_reply d s kept)
+unfoldable pub after_frame : Phase → Desk → List ℕ → List ℕ → Said
+after_frame phase d s kept = pick (is_entry phase) (after_form d (form_of s)) (after_reply d s kept)
 
-unfoldable pub kept_frame : ℕ → Desk → List ℕ → List ℕ → List ℕ
-kept_frame phase d s kept = pick (eqb phase 0) kept (kept_reply d s kept)
+unfoldable pub kept_frame : Phase → Desk → List ℕ → List ℕ → List ℕ
+kept_frame phase d s kept = pick (is_entry phase) kept (kept_reply d s kept)
 
-abbrev pub after_line : ℕ → Desk → Line → List ℕ → Said
+abbrev pub after_line : Phase → Desk → Line → List ℕ → Said
 after_line phase d (good s) kept = after_frame phase d s kept
 after_line phase d bad kept = failed d
 
-abbrev pub kept_line : ℕ → Desk → Line → List ℕ → List ℕ
+abbrev pub kept_line : Phase → Desk → Line → List ℕ → List ℕ
 kept_line phase d (good s) kept = kept_frame phase d s kept
 kept_line phase d bad kept = kept
 
 -- "none at all"; "Replies used up: it leaves, 03."
-unfoldable pub after_all : ℕ → Desk → Said
+unfoldable pub after_all : Phase → Desk → Said
 after_all phase d =
-    pick (eqb phase 0) (failed d)
+    pick (is_entry phase) (failed d)
     (last (called d (leave 0)).desk ((called d (leave 0)).answer.number ∷ []))
 
 -- ---- what the functions promise that read a line
@@ -130,4 +142,4 @@ pub record Turned (s : Said) (at : ℕ) (r : Turn) (out out' : List ℕ) : Type 
   pub printed : out' ≡ laid out at s.text
   pub good : Good r.desk
   pub fits : at + length s.text ≤ length out
-  pub short : (s.phase ≡ 2 → ⊥) → length s.text ≤ 33
+  pub short : is_over s.phase ≡ false → length s.text ≤ 33

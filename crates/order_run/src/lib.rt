@@ -14,7 +14,7 @@ ghost use Rattle.order_run.specs.Feed.{st_of, st, after, line_ended, finished, e
 use desk::Desk;
 use desk::change::Change;
 use digits::{Part, digit_table, further, is_bad, is_begun, is_whole, nothing, put, whole_bytes};
-use turns::{ENTRY, OVER, REPLY, all_read, frame_read, is_quiet, last_number, least, print_answer};
+use turns::{Phase, all_read, frame_read, is_quiet, last_number, least, print_answer};
 
 // The most characters of a piece, and the room for what a piece prints: a request for each of them, 33 characters, and the longest line
 // that ends a run, 00 and 4,096 bytes.
@@ -26,7 +26,7 @@ pub const ROOM: usize = 143363;
 #[derive(Clone, Copy)]
 pub struct Run {
     pub desk: Desk,
-    pub phase: u8,
+    pub phase: Phase,
     pub part: Part,
 }
 
@@ -44,12 +44,12 @@ pub fn start() -> Run
     let part = nothing();
     Run {
         desk,
-        phase: ENTRY,
+        phase: Phase::Entry,
         part,
     }
 }
 
-fn line_end(desk: Desk, phase: u8, part: Part, frame: &[u8], data: &mut [u8]) -> Option<Change>
+fn line_end(desk: Desk, phase: Phase, part: Part, frame: &[u8], data: &mut [u8]) -> Option<Change>
     requires good { Good desk }
     requires begun { Begun part }
     requires frame_len { (length frame.now ≡ 1486) × (length «data».old ≡ 4096) }
@@ -83,7 +83,7 @@ fn feed_piece(
     let mut printed = 0;
     let mut i = 0;
     'lines: while i < text.len() {
-        if phase == OVER {
+        if phase.is_over() {
             break 'lines;
         }
         let whole = whole_bytes(table, text, i, part, frame);
@@ -117,7 +117,7 @@ fn feed_piece(
                     desk.line[at] = slot;
                     desk.waiting = change.waiting;
                     desk.counter = change.counter;
-                    phase = REPLY;
+                    phase = Phase::Reply;
                 }
                 Some(change) => {
                     let turn = print_answer(desk, change, data, out, printed);
@@ -178,7 +178,7 @@ pub fn finish(run: Run, frame: &mut [u8; 1486], data: &mut [u8; 4096], out: &mut
     let printed = fed.printed;
     let desk = ended.desk;
     let phase = ended.phase;
-    if phase == OVER {
+    if phase.is_over() {
         return fed;
     }
     let turn = all_read(desk, phase, out, printed);

@@ -3,7 +3,7 @@ ghost use Rattle.std.specs.Prelude.{◌≡◌, [], ◌∷◌, ◌+◌, ◌*◌, 
 ghost use Rattle.wire.specs.Store.{laid};
 ghost use Rattle.desk.specs.Record.{Good};
 ghost use Rattle.desk.specs.Change.{Within, changed_by, called_by};
-ghost use Rattle.order_run.specs.Turns.{line_text, last, request as Turns·request, after_form, after_receive, after_frame, kept_frame, after_all, quiet, Says, Enters, Turned};
+ghost use Rattle.order_run.specs.Turns.{is_entry, is_over, line_text, last, request as Turns·request, after_form, after_receive, after_frame, kept_frame, after_all, quiet, Says, Enters, Turned};
 ghost use Rattle.order_run.specs.Entry.{form_of};
 
 use crate::entry::form_of;
@@ -14,17 +14,32 @@ use desk::change::{Change, changed};
 const SEAT: u8 = 0;
 
 // A run awaits its entry, awaits a reply, or is over.
-pub const ENTRY: u8 = 0;
+#[derive(Clone, Copy)]
+pub enum Phase {
+    Entry,
+    Reply,
+    Over,
+}
 
-pub const REPLY: u8 = 1;
+impl Phase {
+    pub fn is_over(self) -> bool
+        ensures { result ≡ is_over self }
+    {
+        matches!(self, Phase::Over)
+    }
 
-pub const OVER: u8 = 2;
+    pub(crate) fn is_entry(self) -> bool
+        ensures { result ≡ is_entry self }
+    {
+        matches!(self, Phase::Entry)
+    }
+}
 
 // The run after a line: its desk, its phase, and the place behind what it has printed.
 #[derive(Clone, Copy)]
 pub struct Turn {
     pub desk: Desk,
-    pub phase: u8,
+    pub phase: Phase,
     pub end: usize,
 }
 
@@ -46,7 +61,7 @@ pub(crate) fn last_number(desk: Desk, number: u8, out: &mut [u8], at: usize) -> 
     let end = print_line(&one, out, at);
     Turn {
         desk,
-        phase: OVER,
+        phase: Phase::Over,
         end,
     }
 }
@@ -62,7 +77,7 @@ fn request(desk: Desk, out: &mut [u8], at: usize) -> Turn
     let end = print_line(&frame, out, at);
     Turn {
         desk: after,
-        phase: REPLY,
+        phase: Phase::Reply,
         end,
     }
 }
@@ -85,7 +100,7 @@ fn done(desk: Desk, payload: u32, data: &[u8], out: &mut [u8], at: usize) -> Tur
     let end = print_line(&data[..stored], out, from);
     Turn {
         desk,
-        phase: OVER,
+        phase: Phase::Over,
         end,
     }
 }
@@ -105,11 +120,11 @@ fn entry_read(desk: Desk, frame: &[u8]) -> Option<Change>
 }
 
 // What a line changes at the desk, if it is not bad: small, where the desk handed on by value would be copied at each hand.
-pub(crate) fn frame_read(desk: Desk, phase: u8, frame: &[u8], data: &mut [u8]) -> Option<Change>
+pub(crate) fn frame_read(desk: Desk, phase: Phase, frame: &[u8], data: &mut [u8]) -> Option<Change>
     requires { Good desk }
     ensures { Says desk (after_frame phase desk frame.now «data».old) result «data».new × («data».new ≡ kept_frame phase desk frame.now «data».old) }
 {
-    if phase == ENTRY {
+    if phase.is_entry() {
         return entry_read(desk, frame);
     }
     Some(Desk::receiving(desk, SEAT, frame, data))
@@ -153,7 +168,7 @@ pub(crate) fn print_answer(
     if answer.number == 0x02 {
         return Turn {
             desk: after,
-            phase: REPLY,
+            phase: Phase::Reply,
             end: at,
         };
     }
@@ -161,12 +176,12 @@ pub(crate) fn print_answer(
 }
 
 // "Replies used up: it leaves, 03."
-pub(crate) fn all_read(desk: Desk, phase: u8, out: &mut [u8], at: usize) -> Turn
+pub(crate) fn all_read(desk: Desk, phase: Phase, out: &mut [u8], at: usize) -> Turn
     requires good { Good desk }
     requires at_in_bounds { at + 3 ≤ length out.old }
     ensures { Turned (after_all phase desk) at result out.old out.new }
 {
-    if phase == ENTRY {
+    if phase.is_entry() {
         return last_number(desk, 0xff, out, at);
     }
     let left = desk.leave(SEAT);

@@ -1,12 +1,14 @@
 -- `feed_piece` meets its contract. Both loops have one invariant each: what is left to do from here gives what the whole gives.
 use mathlib.Core.Path.{◌≡◌, sym, ap, ◌∙◌}
+use mathlib.Core.Bool.{false}
 use mathlib.Core.List.{List}
 use Prim.Native.Nat.{ℕ, ◌+◌, ◌*◌, ◌<◌, ◌≤◌}
 use native.Mathlib.Omega.{arith}
 use lib.ListN.{length, get_or, drop}
 use Rattle.desk.specs.declared.Desk.{Desk}
 use Rattle.order_run.specs.declared.digits.Part.{Part}
-use Rattle.order_run.specs.Turns.{Turned}
+use Rattle.order_run.specs.Turns.{is_over, Turned}
+use Rattle.order_run.specs.declared.turns.Phase.{Phase}
 use Rattle.order_run.specs.Feed.{St, st, further, put_part, put_frame, end_said, Whole}
 use Rattle.order_run.proofs.Spoken.{turned_as, turned_at, quiet_turned}
 use Rattle.order_run.proofs.Characters.{put_digit, begun_put}
@@ -15,9 +17,9 @@ use Rattle.order_run.proofs.feed_piece.Goals as goal
 use Rattle.order_run.proofs.feed_piece.Goals.{else-loop-i-test, then-loop-i-test+then-c-eq10, in-Some, in-Some-2, in-None}
 
 -- the lines so far, the whole bytes that a line is gone on with, and the digits behind them
-gone_on : {t : List ℕ} {s₁ : St} {o₁ : List ℕ} {d : Desk} {ph : ℕ} {p : Part} {f k o : List ℕ} {n i : ℕ} {p₂ : Part} {f₂ : List ℕ} {m : ℕ}
-    {d' : Desk} {ph' : ℕ} {p' : Part} {f' o' : List ℕ} {n' i' : ℕ}
-    → Lines t s₁ o₁ (st d ph p f k) o n i → length t ≤ 4096 → (ph ≡ 2 → ⊥)
+gone_on : {t : List ℕ} {s₁ : St} {o₁ : List ℕ} {d : Desk} {ph : Phase} {p : Part} {f k o : List ℕ} {n i : ℕ} {p₂ : Part} {f₂ : List ℕ} {m : ℕ}
+    {d' : Desk} {ph' : Phase} {p' : Part} {f' o' : List ℕ} {n' i' : ℕ}
+    → Lines t s₁ o₁ (st d ph p f k) o n i → length t ≤ 4096 → is_over ph ≡ false
     → Whole (drop i t) p.count f m f₂ × (0 < m → p.half ≡ 16) → length f₂ ≡ length f → p₂ ≡ further p m
     → Digits t k d ph p₂ f₂ o n (i + 2 * m) d' ph' p' f' o' n' i' → Lines t s₁ o₁ (st d' ph' p' f' k) o' n' i'
 gone_on L b g w l e D = through (through L (digits_whole (digits_start L b g) w.0 w.1 (l ∙ L.long) e)) D
@@ -49,32 +51,32 @@ lines-preserved-then-i-text c =
     let w = c.whole_bytes-whole in
     let newline : get_or c.args.text.now l.i 0 ≡ 10 =
     elim c.loop-i-test.branch [ else-loop-i-test w ↦ absurd (omega (arith, w.loop-i-test.false, c.if-i-text.true)) | then-loop-i-test+then-c-eq10 w ↦ w.if-c-eq10.true ] in
-    let spoken : Turned (end_said (st l.desk l.phase l.part l.frame c.lines.«data»)) l.printed
+    let spoken : Turned (end_said (st l.desk l.phase-1 l.part l.frame c.lines.«data»)) l.printed
     (record { desk = c.match-change.desk; phase = c.match-change.phase; end = c.match-change.printed }) l.out c.match-change.out =
     elim c.match-change.branch [
       | in-Some w ↦ turned_at w.desk-is w.phase-is w.printed-is w.out-is (quiet_turned l.out l.printed (rw w.in-Some.is at e.ensures.0) (sym w.is_quiet.ensures ∙ w.if-is_quiet.true) (omega (arith, l.invariant.room)))
       | in-Some-2 w ↦ turned_at w.desk-is w.phase-is w.printed-is w.out-is (turned_as (rw w.in-Some-2.is at e.ensures.0).told w.print_answer-turn.ensures)
       | in-None w ↦ turned_at w.desk-is w.phase-is w.printed-is w.out-is (turned_as (rw w.in-None.is at e.ensures.0) w.last_number-turn.ensures)
     ] in
-    line_done (gone_on c.lines.invariant c.requires.text_len_bound c.if-phase-eq-OVER.false w.ensures w.auto.frame c.further-part.ensures l.invariant)
+    line_done (gone_on c.lines.invariant c.requires.text_len_bound (sym c.is_over.ensures ∙ c.if-is_over.false) w.ensures w.auto.frame c.further-part.ensures l.invariant)
     c.if-i-text.true newline l.invariant.going spoken e.ensures.1 e.auto.«data» c.match-change.auto.out c.nothing-part-then-i-text.ensures
 
 pub lines-preserved : goal.lines-preserved
 lines-preserved c =
     let w = c.whole_bytes-whole in
-    gone_on c.lines.invariant c.requires.text_len_bound c.if-phase-eq-OVER.false w.ensures w.auto.frame c.further-part.ensures c.loop-i.invariant
+    gone_on c.lines.invariant c.requires.text_len_bound (sym c.is_over.ensures ∙ c.if-is_over.false) w.ensures w.auto.frame c.further-part.ensures c.loop-i.invariant
 
 pub returns-after-lines : goal.returns-after-lines
 returns-after-lines c =
     rested_end c.lines.invariant c.lines-test.false
 
-pub returns-then-phase-eq-OVER : goal.returns-then-phase-eq-OVER
-returns-then-phase-eq-OVER c =
-    rested_over c.lines.invariant c.if-phase-eq-OVER.true
+pub returns-then-is_over : goal.returns-then-is_over
+returns-then-is_over c =
+    rested_over c.lines.invariant (sym c.is_over.ensures ∙ c.if-is_over.true)
 
 pub returns-then-is_bad : goal.returns-then-is_bad
 returns-then-is_bad c =
     let D = c.loop-i.invariant in
     let w = c.whole_bytes-whole in
-    rested_bad (gone_on c.lines.invariant c.requires.text_len_bound c.if-phase-eq-OVER.false w.ensures w.auto.frame c.further-part.ensures D)
+    rested_bad (gone_on c.lines.invariant c.requires.text_len_bound (sym c.is_over.ensures ∙ c.if-is_over.false) w.ensures w.auto.frame c.further-part.ensures D)
     c.loop-i-test.true c.if-c-eq10.false D.going (sym c.is_bad.ensures ∙ c.if-is_bad.true) c.last_number-bad.ensures c.nothing-part.ensures
