@@ -9,7 +9,6 @@ mod values;
 
 ghost use Rattle.std.specs.Prelude.{◌≡◌, ◌≤◌, length};
 
-use order_text::Decoded;
 use std::io;
 use std::io::Read;
 
@@ -45,11 +44,7 @@ pub(crate) fn head(case: &[u8]) -> usize
 
 // What a buffer holds before a case writes to it.
 pub(crate) fn fill(buffer: &mut [u8]) {
-    let mut i = 0;
-    while i < buffer.len() {
-        buffer[i] = FILL;
-        i += 1;
-    }
+    buffer.fill(FILL);
 }
 
 fn dispatch(rt: &impl Print, case: &[u8], buffer: &mut [u8]) -> io::Result<()> {
@@ -67,31 +62,20 @@ fn dispatch(rt: &impl Print, case: &[u8], buffer: &mut [u8]) -> io::Result<()> {
 }
 
 fn run_line(rt: &impl Print, line: &[u8], space: &mut [u8], buffer: &mut [u8]) -> io::Result<()> {
-    if line.len() == 0 {
+    if line.is_empty() || line[0] == b'#' {
         return Ok(());
     }
-    if wire::byte(line, 0) == b'#' {
-        return Ok(());
-    }
-    match order_text::decode(line, space) {
-        Decoded::Bytes(n) => {
-            if n <= space.len() {
-                dispatch(rt, &space[0..n], buffer)?;
-                show::words(rt, b"\n")?;
-            }
-            Ok(())
-        }
-        Decoded::Bad => show::words(rt, b"no such line\n"),
+    if let Some(n) = order_text::decode(line, space) {
+        dispatch(rt, &space[..n], buffer)?;
+        show::words(rt, b"\n")
+    } else {
+        show::words(rt, b"no such line\n")
     }
 }
 
 fn run(rt: &impl Print, text: &[u8], space: &mut [u8], buffer: &mut [u8]) -> io::Result<()> {
-    let mut at = 0;
-    while at < text.len() {
-        let rest = &text[at..];
-        let n = rest.iter().position(|&c| c == b'\n').unwrap_or(rest.len());
-        run_line(rt, &rest[..n], space, buffer)?;
-        at += n + 1;
+    for line in text.split(|&c| c == b'\n') {
+        run_line(rt, line, space, buffer)?;
     }
     Ok(())
 }

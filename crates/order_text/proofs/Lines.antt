@@ -1,33 +1,34 @@
 -- Laws of lines that the loops over one go by: what is left of a line, and the byte at a place. Assumes nothing.
 use Prim.Native.Nat.{ℕ, zero, suc, ◌+◌, ◌*◌, ◌/◌, ◌<◌, ◌≤◌}
-use mathlib.Core.Path.{◌≡◌, refl, ◌∙◌}
-use mathlib.Core.Bool.{Bool, true, false}
-use mathlib.Core.List.{List, [], ◌∷◌}
+use mathlib.Core.Path.{◌≡◌, refl, ap, ◌∙◌}
+use mathlib.Core.Bool.{Bool, true, false, ◌||◌}
+use mathlib.Core.List.{List, [], ◌∷◌, ◌++◌}
 use native.Mathlib.Numerals.{add-one}
 use native.Mathlib.Omega.{arith}
 use lib.Dec.{ltb}
-use lib.ListN.{length, get_or, set, drop, drop_of_length-le}
-use lib.Seq.{drop-cons, paste}
-use borrow.Author.Tests.{lt-ltb, le-ltb, ltb-false}
+use lib.ListN.{length, get_or, set, take, drop, length-take, drop_of_length-le}
+use lib.Seq.{paste}
+use Rattle.std.proofs.Common.{append-nil}
+use borrow.Author.Tests.{ltb-false}
+use Rattle.std.specs.List.{list_any}
 use Rattle.wire.specs.Words.{either}
 use Rattle.wire.proofs.Store.{paste_turn}
 use Rattle.order_text.specs.Digits.{digit_of, byte_of}
 use Rattle.order_text.specs.Lines.{has_bad, bytes_of}
 use Rattle.order_text.proofs.Digits.{byte_digits}
 
-module _ (s : List ℕ) (i : ℕ) where
-  -- the first bad character, a good one, and the end
-  pub bad_here : i < length s → 15 < digit_of (get_or s i 0) → has_bad (drop i s) ≡ true
-  unfolding has_bad
-  bad_here h b = rw (drop-cons s i 0 h, lt-ltb 15 (digit_of (get_or s i 0)) b)
+-- a character that is no digit
+abbrev pub is_bad : ℕ → Bool
+is_bad c = ltb 15 (digit_of c)
 
-  pub bad_next : i < length s → digit_of (get_or s i 0) ≤ 15 → has_bad (drop i s) ≡ has_bad (drop (i + 1) s)
-  unfolding has_bad
-  bad_next h b = rw (drop-cons s i 0 h, le-ltb 15 (digit_of (get_or s i 0)) b, add-one i)
-
-  pub bad_none : length s ≤ i → has_bad (drop i s) ≡ false
-  unfolding has_bad
-  bad_none h = rw (drop_of_length-le s h)
+pub has_bad-any : (s : List ℕ) → has_bad s ≡ list_any is_bad s
+unfolding has_bad
+has_bad-any [] = refl
+has_bad-any (c ∷ s) = rw (has_bad-any s) (either_or (is_bad c) (list_any is_bad s))
+  where
+    either_or : (a b : Bool) → either a b ≡ (a || b)
+    either_or true b = refl
+    either_or false b = refl
 
 either_left : (a b : Bool) → either a b ≡ false → a ≡ false
 either_left true b e = e
@@ -81,3 +82,11 @@ pub byte_turn : (f s : List ℕ) (at k j : ℕ) → j ≡ at + k → j < length 
     → set (paste f at (bytes_of s) k) j (byte_of (get_or s (2 * k) 0) (get_or s (2 * k + 1) 0)) ≡ paste f at (bytes_of s) (k + 1)
 byte_turn f s at k j e h l =
     rw (← byte_at s k l) (paste_turn f at (bytes_of s) k j e h (rw (length-bytes s) (omega arith)))
+
+-- bytes laid over the whole of a buffer's front part are laid over the buffer
+pub paste_front : (f s : List ℕ) (k : ℕ) → k ≤ length f → k ≤ length s → paste (take k f) 0 s k ++ drop k f ≡ paste f 0 s k
+paste_front f s k h l =
+    let none : drop (0 + k) (take k f) ≡ [] = drop_of_length-le (take k f) (simp length-take (omega arith)) in
+    let at : k ≡ 0 + k = omega arith in
+    ap (λ (x : List ℕ). take k s ++ x ++ drop k f) none ∙ ap (λ (x : List ℕ). x ++ drop k f) (append-nil (take k s))
+    ∙ ap (λ (j : ℕ). take k s ++ drop j f) at

@@ -1,11 +1,14 @@
 -- Laws of the text of bytes that its writer goes by: its length, the characters of each byte, and a turn of the loop.
 -- Assumes nothing.
-use Prim.Native.Nat.{ℕ, zero, suc, ◌+◌, ◌-◌, ◌*◌, ◌/◌, ◌%◌, ◌<◌, min}
+use Prim.Native.Nat.{ℕ, zero, suc, ◌+◌, ◌-◌, ◌*◌, ◌/◌, ◌%◌, ◌<◌, min, ◌≤◌}
 use mathlib.Core.Path.{◌≡◌, refl, sym, ap, ◌∙◌}
-use mathlib.Core.List.{List, [], ◌∷◌}
+use mathlib.Core.List.{List, [], ◌∷◌, ◌++◌, append_assoc}
 use native.Mathlib.Omega.{arith}
-use lib.ListN.{length, get_or, set, length-take, take}
-use lib.Seq.{paste, paste-zero, take-nil}
+use lib.ListN.{length, get_or, set, length-take, length-drop, take, drop, drop_of_length-le}
+use Rattle.std.proofs.lemmas.List.{take_rest}
+use lib.Seq.{paste, paste-zero, take-nil, drop-drop}
+use Rattle.std.proofs.Common.{append-nil}
+use borrow.Rule.Slice.PartMut.{put_mid}
 use Rattle.wire.specs.Store.{laid}
 use Rattle.wire.proofs.Store.{paste_turn, paste_part}
 use Rattle.order_text.specs.Digits.{char_of}
@@ -29,18 +32,18 @@ low_at (x ∷ s) zero h = refl
 low_at (x ∷ s) (suc i) h = let e : 2 * suc i + 1 ≡ suc (suc (2 * i + 1)) = omega arith in rw e (low_at s i (omega arith))
 
 -- a turn of the loop that writes the characters
-pub text_turn : (o s : List ℕ) (at i : ℕ) → at + 2 * i + 1 < length o → i < length s
-    → set (set (paste o at (hex_text s) (2 * i)) (at + 2 * i) (char_of (get_or s i 0 / 16))) (at + 2 * i + 1) (char_of (get_or s i 0 % 16))
-    ≡ paste o at (hex_text s) (2 * (i + 1))
-text_turn o s at i h l =
+pub text_turn : (o s : List ℕ) (i : ℕ) → 2 * i + 1 < length o → i < length s
+    → set (set (paste o 0 (hex_text s) (2 * i)) (2 * i) (char_of (get_or s i 0 / 16))) (2 * i + 1) (char_of (get_or s i 0 % 16))
+    ≡ paste o 0 (hex_text s) (2 * (i + 1))
+text_turn o s i h l =
     let t : List ℕ = hex_text s in
     let n : 2 * i + 1 < length t = rw (length-text s) (omega arith) in
-    let first : set (paste o at t (2 * i)) (at + 2 * i) (get_or t (2 * i) 0) ≡ paste o at t (2 * i + 1) =
-    paste_turn o at t (2 * i) (at + 2 * i) refl (omega arith) (omega arith) in
-    let second : set (paste o at t (2 * i + 1)) (at + 2 * i + 1) (get_or t (2 * i + 1) 0) ≡ paste o at t (2 * i + 1 + 1) =
-    paste_turn o at t (2 * i + 1) (at + 2 * i + 1) (omega arith) h n in
+    let first : set (paste o 0 t (2 * i)) (2 * i) (get_or t (2 * i) 0) ≡ paste o 0 t (2 * i + 1) =
+    paste_turn o 0 t (2 * i) (2 * i) (omega arith) (omega arith) (omega arith) in
+    let second : set (paste o 0 t (2 * i + 1)) (2 * i + 1) (get_or t (2 * i + 1) 0) ≡ paste o 0 t (2 * i + 1 + 1) =
+    paste_turn o 0 t (2 * i + 1) (2 * i + 1) (omega arith) h n in
     let e : 2 * (i + 1) ≡ 2 * i + 1 + 1 = omega arith in
-    rw (← high_at s i l, ← low_at s i l, e) (ap (λ (d : List ℕ). set d (at + 2 * i + 1) (get_or t (2 * i + 1) 0)) first ∙ second)
+    rw (← high_at s i l, ← low_at s i l, e) (ap (λ (d : List ℕ). set d (2 * i + 1) (get_or t (2 * i + 1) 0)) first ∙ second)
 
 -- the text of the first bytes is the first part of the text
 text-take : (m : ℕ) (s : List ℕ) → hex_text (take m s) ≡ take (2 * m) (hex_text s)
@@ -51,28 +54,61 @@ text-take (suc m) (x ∷ s) =
     let e : 2 * suc m ≡ suc (suc (2 * m)) = omega arith in
     rw (e, text-take m s)
 
-module _ (o s : List ℕ) (at count : ℕ) (e : count ≡ min ((length o - at) / 2) (length s)) where
-  -- the text of the bytes that have room, as long as they are many
-  length_text_in : length (text_in (length o - at) s) ≡ 2 * count
+-- the text of as many bytes as n characters have room for: its length, and what its characters leave over n of them
+module _ (o s : List ℕ) (count : ℕ) (e : count ≡ min (length s) (length o / 2)) where
+  pub length_text_in : length (text_in (length o) s) ≡ 2 * count
   unfolding text_in
-  length_text_in = length-text (take ((length o - at) / 2) s) ∙ simp length-take (omega arith)
+  length_text_in = length-text (take (length o / 2) s) ∙ simp length-take (omega arith)
 
-  -- and the characters of that many bytes are that text, laid over the buffer
-  text_laid : paste o at (hex_text s) (2 * count) ≡ laid o at (text_in (length o - at) s)
+  pub text_laid : paste o 0 (hex_text s) (2 * count) ≡ laid o 0 (text_in (length o) s)
   unfolding text_in
   text_laid =
-      let m : ℕ = (length o - at) / 2 in
+      let m : ℕ = length o / 2 in
       let l : length (hex_text (take m s)) ≡ 2 * count = length_text_in in
-      let k : 2 * count ≡ min (length (hex_text (take m s))) (length o - at) = omega arith in
-      paste_part o at (hex_text s) (2 * count) (2 * m) (omega arith)
-      ∙ ap (λ (t : List ℕ). paste o at t (2 * count)) (sym (text-take m s))
-      ∙ ap (paste o at (hex_text (take m s))) k
+      let k : 2 * count ≡ min (length (hex_text (take m s))) (length o - 0) = omega arith in
+      paste_part o 0 (hex_text s) (2 * count) (2 * m) (omega arith)
+      ∙ ap (λ (t : List ℕ). paste o 0 t (2 * count)) (sym (text-take m s))
+      ∙ ap (paste o 0 (hex_text (take m s))) k
 
-  -- what `encode_at` answers and leaves, where there is no room, and where the text is written
-  pub text_none : count ≡ 0 → (at ≡ at + length (text_in (length o - at) s)) × (o ≡ laid o at (text_in (length o - at) s))
-  text_none z =
-      (omega (arith, length_text_in), paste-zero o at (hex_text s) ∙ ap (λ (k : ℕ). paste o at (hex_text s) (2 * k)) (sym z) ∙ text_laid)
+  -- what `encode` answers and leaves
+  pub encoded : (o' : List ℕ) → o' ≡ paste o 0 (hex_text s) (2 * count) → (2 * count ≡ length (text_in (length o) s)) × (o' ≡ laid o 0 (text_in (length o) s))
+  encoded o' w = (sym length_text_in, w ∙ text_laid)
 
-  pub text_some : (o' : List ℕ) → o' ≡ paste o at (hex_text s) (2 * count)
-      → (at + 2 * count ≡ at + length (text_in (length o - at) s)) × (o' ≡ laid o at (text_in (length o - at) s))
-  text_some o' w = (omega (arith, length_text_in), w ∙ text_laid)
+-- a text takes no more characters than have room
+pub text_fits : (n : ℕ) (s : List ℕ) → length (text_in n s) ≤ n
+unfolding text_in
+text_fits n s = simp (length-text, length-take) (omega arith)
+
+-- what is laid over the part of a buffer from a place on is laid over the buffer from there
+laid_behind : (o t : List ℕ) (at : ℕ) → at ≤ length o → put_mid at (length o - at) o (laid (drop at o) 0 t) ≡ laid o at t
+laid_behind o t at h =
+    let n : ℕ = length o - at in
+    let m : ℕ = min (length t) n in
+    let room : min (length t) (length (drop at o) - 0) ≡ m = simp length-drop (omega arith) in
+    let mid : drop (0 + m) (drop at o) ≡ drop (at + m) o = drop-drop (0 + m) at o ∙ ap (λ (j : ℕ). drop j o) (omega arith) in
+    let none : drop n (drop at o) ≡ [] = drop_of_length-le (drop at o) (simp length-drop (omega arith)) in
+    let front : laid (drop at o) 0 t ≡ take m t ++ drop (at + m) o =
+    ap (paste (drop at o) 0 t) room ∙ ap (λ (x : List ℕ). take m t ++ x) mid in
+    ap (λ (x : List ℕ). take at o ++ (x ++ drop n (drop at o))) front
+    ∙ ap (λ (x : List ℕ). take at o ++ (take m t ++ drop (at + m) o ++ x)) none
+    ∙ ap (λ (x : List ℕ). take at o ++ x) (append-nil (take m t ++ drop (at + m) o))
+    ∙ sym (append_assoc (take at o) (take m t) (drop (at + m) o))
+
+module _ (o s : List ℕ) (at : ℕ) where
+  -- what `encode_at` answers and leaves, by what `encode` does to the part from the place on, and where there is no such part
+  pub text_behind : (p o' : List ℕ) (r : ℕ) → p ≡ take (length o - at) (drop at o) → at ≤ length o
+      → r ≡ length (text_in (length p) s) → o' ≡ laid p 0 (text_in (length p) s)
+      → (at + r ≡ at + length (text_in (length o - at) s)) × (put_mid at (length o - at) o o' ≡ laid o at (text_in (length o - at) s))
+  text_behind p o' r e h a w =
+      let part : p ≡ drop at o = e ∙ take_rest o at in
+      let n : length p ≡ length o - at = rw part (length-drop at o) in
+      let t : List ℕ = text_in (length o - at) s in
+      let laid_part : o' ≡ laid (drop at o) 0 t = w ∙ ap (λ (k : ℕ). laid p 0 (text_in k s)) n ∙ ap (λ (x : List ℕ). laid x 0 t) part in
+      (rw (a, n), ap (put_mid at (length o - at) o) laid_part ∙ laid_behind o t at h)
+
+  pub text_past : length o < at
+      → (at ≡ at + length (text_in (length o - at) s)) × (o ≡ laid o at (text_in (length o - at) s))
+  text_past h =
+      let n : length (text_in (length o - at) s) ≡ 0 = omega (arith, text_fits (length o - at) s) in
+      let k : 0 ≡ min (length (text_in (length o - at) s)) (length o - at) = omega arith in
+      (omega arith, paste-zero o at (text_in (length o - at) s) ∙ ap (paste o at (text_in (length o - at) s)) k)

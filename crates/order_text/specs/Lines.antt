@@ -1,11 +1,9 @@
 -- What a line says. Document 01, "The order program": "lines of lower-case hexadecimal, one frame a line, at most 1,486 bytes
 -- each". How many bytes have room is a parameter here. Assumes nothing.
-use Rattle.std.specs.Prelude.{ℕ, ◌/◌, ◌%◌, Bool, false, List, [], ◌∷◌, ltb, eqb, length}
+use Rattle.std.specs.Prelude.{ℕ, ◌/◌, ◌%◌, Bool, false, Option, Some, None, List, [], ◌∷◌, ltb, eqb, length}
 use Rattle.wire.specs.Words.{pick, either}
 use Rattle.wire.specs.Store.{laid}
 use Rattle.order_text.specs.Digits.{digit_of, byte_of}
-use Rattle.order_text.specs.declared.Decoded.{Decoded}
-use Rattle.order_text.specs.declared.Decoded.TheVariants.{Bytes, Bad}
 
 -- "The first character that is not lower-case hexadecimal"
 unfoldable pub has_bad : List ℕ → Bool
@@ -35,9 +33,9 @@ unfoldable pub line_of : ℕ → List ℕ → Line
 line_of n s = pick (has_bad s) bad (pick (odd s) bad (pick (overlong n s) bad (good (bytes_of s))))
 
 -- the answer to a line, and what it leaves in a buffer: a bad line leaves all unchanged
-abbrev pub answer_of : Line → Decoded
-answer_of (good s) = Bytes (length s)
-answer_of bad = Bad
+abbrev pub answer_of : Line → Option ℕ
+answer_of (good s) = Some (length s)
+answer_of bad = None
 
 abbrev pub left_in : List ℕ → Line → List ℕ
 left_in f (good s) = laid f 0 s

@@ -9,13 +9,6 @@ ghost use Rattle.order_text.specs.Digits.{digit_of, char_of, byte_of};
 ghost use Rattle.order_text.specs.Lines.{has_bad, bytes_of, line_of, answer_of, left_in};
 ghost use Rattle.order_text.specs.Text.{hex_text, text_in};
 
-// What a line says: how many bytes, or that it is none.
-#[derive(Clone, Copy)]
-pub enum Decoded {
-    Bytes(usize),
-    Bad,
-}
-
 // The digit that a character is, and 16 for a character that is none.
 pub fn digit(c: u8) -> u8
     ensures { result ≡ digit_of c }
@@ -58,14 +51,7 @@ pub fn byte_of(a: u8, b: u8) -> u16
 fn has_bad(line: &[u8]) -> bool
     ensures { result ≡ has_bad line.now }
 {
-    let mut i = 0;
-    'digits: while i < line.len() {
-        if 15 < digit(line[i]) {
-            break 'digits;
-        }
-        i += 1;
-    }
-    i < line.len()
+    line.iter().any(|&c| 15 < digit(c))
 }
 
 // What the two characters of the line's byte k say.
@@ -83,76 +69,48 @@ fn store(line: &[u8], frame: &mut [u8], count: usize)
     requires count_in_bounds_2 { count ≤ length frame.old }
     ensures { frame.new ≡ paste frame.old 0 (bytes_of line.now) count }
 {
-    let mut k = 0;
-    while k < count {
-        frame[k] = byte_at(line, k) as u8;
-        k += 1;
+    for (k, byte) in frame[..count].iter_mut().enumerate() {
+        *byte = byte_at(line, k) as u8;
     }
 }
 
-// The bytes of a line, at the front of `frame`. A first loop tests and a second stores, so that a bad line leaves `frame` as it
-// was.
-pub fn decode(line: &[u8], frame: &mut [u8]) -> Decoded
+// How many bytes a line says, and they at the front of `frame`. A first loop tests and a second stores, so that a bad line leaves
+// `frame` as it was.
+pub fn decode(line: &[u8], frame: &mut [u8]) -> Option<usize>
     ensures { (result ≡ answer_of (line_of (length frame.old) line.now)) × (frame.new ≡ left_in frame.old (line_of (length frame.old) line.now)) }
 {
     if has_bad(line) {
-        return Decoded::Bad;
+        return None;
     }
     if line.len() % 2 == 1 {
-        return Decoded::Bad;
+        return None;
     }
     let count = line.len() / 2;
     if frame.len() < count {
-        return Decoded::Bad;
+        return None;
     }
     store(line, frame, count);
-    Decoded::Bytes(count)
-}
-
-// How many of `count` bytes have room for their text in n characters from `at` on.
-fn fitting(count: usize, n: usize, at: usize) -> usize
-    ensures { result ≡ min ((n - at) / 2) count }
-{
-    if n < at {
-        return 0;
-    }
-    let most = (n - at) / 2;
-    if most < count {
-        return most;
-    }
-    count
-}
-
-// The text of the first `count` bytes, from `at` on.
-fn write(bytes: &[u8], count: usize, out: &mut [u8], at: usize)
-    requires count_in_bounds { count ≤ length bytes.now }
-    requires count_in_bounds_2 { at + 2 * count ≤ length out.old }
-    ensures { out.new ≡ paste out.old at (hex_text bytes.now) (2 * count) }
-{
-    let mut i = 0;
-    while i < count {
-        let b = bytes[i];
-        out[at + 2 * i] = glyph(b / 16);
-        out[at + 2 * i + 1] = glyph(b);
-        i += 1;
-    }
-}
-
-// The text of as many bytes as have room, from the place `at` on. Answers the place behind it.
-pub fn encode_at(bytes: &[u8], out: &mut [u8], at: usize) -> usize
-    ensures { (result ≡ at + length (text_in (length out.old - at) bytes.now)) × (out.new ≡ laid out.old at (text_in (length out.old - at) bytes.now)) }
-{
-    let count = fitting(bytes.len(), out.len(), at);
-    if count == 0 {
-        return at;
-    }
-    write(bytes, count, out, at);
-    at + 2 * count
+    Some(count)
 }
 
 // The text of as many bytes as have room, at the front of `out`. Answers its length.
 pub fn encode(bytes: &[u8], out: &mut [u8]) -> usize
     ensures { (result ≡ length (text_in (length out.old) bytes.now)) × (out.new ≡ laid out.old 0 (text_in (length out.old) bytes.now)) }
 {
-    encode_at(bytes, out, 0)
+    let count = bytes.len().min(out.len() / 2);
+    for (i, b) in bytes[..count].iter().enumerate() {
+        out[2 * i] = glyph(*b / 16);
+        out[2 * i + 1] = glyph(*b);
+    }
+    2 * count
+}
+
+// The text of as many bytes as have room, from the place `at` on. Answers the place behind it.
+pub fn encode_at(bytes: &[u8], out: &mut [u8], at: usize) -> usize
+    ensures { (result ≡ at + length (text_in (length out.old - at) bytes.now)) × (out.new ≡ laid out.old at (text_in (length out.old - at) bytes.now)) }
+{
+    if out.len() < at {
+        return at;
+    }
+    at + encode(bytes, &mut out[at..])
 }

@@ -3,7 +3,6 @@
 ghost use Rattle.std.specs.Prelude.{IfOk};
 ghost use Rattle.desk.specs.Record.{Good};
 
-use crate::least;
 use desk::{Called, Desk};
 use std::io;
 use transfer::Order;
@@ -55,15 +54,22 @@ pub(crate) fn leave(rt: &impl Print, desk: Desk, call: &[u8]) -> io::Result<Desk
     told(rt, desk.leave(wire::byte(call, 1)))
 }
 
+// The buffer that a call lends, by its place in the memory and its length.
+fn lent<'a>(call: &[u8], memory: &'a mut [u8]) -> &'a mut [u8] {
+    let from = (wire::long_at(call, 2) as usize).min(memory.len());
+    let behind = &mut memory[from..];
+    let len = (wire::long_at(call, 6) as usize).min(behind.len());
+    &mut behind[..len]
+}
+
 pub(crate) fn send(rt: &impl Print, desk: Desk, call: &[u8], memory: &mut [u8]) -> io::Result<Desk>
     requires { Good desk }
     ensures { IfOk result Good }
 {
-    let from = least(wire::long_at(call, 2) as usize, memory.len());
-    let to = from + least(wire::long_at(call, 6) as usize, memory.len() - from);
-    let after = told(rt, desk.send(wire::byte(call, 1), &mut memory[from..to]))?;
+    let buffer = lent(call, memory);
+    let after = told(rt, desk.send(wire::byte(call, 1), buffer))?;
     show::words(rt, b" ")?;
-    show::bytes(rt, &memory[from..to])?;
+    show::bytes(rt, buffer)?;
     Ok(after)
 }
 
@@ -76,14 +82,10 @@ pub(crate) fn receive(
     requires { Good desk }
     ensures { IfOk result Good }
 {
-    let from = least(wire::long_at(call, 2) as usize, memory.len());
-    let to = from + least(wire::long_at(call, 6) as usize, memory.len() - from);
-    let reply = &call[least(10, call.len())..];
-    let after = told(
-        rt,
-        desk.receive(wire::byte(call, 1), reply, &mut memory[from..to]),
-    )?;
-    show::looked(rt, &memory[from..to], 32, 4)?;
+    let buffer = lent(call, memory);
+    let reply = &call[call.len().min(10)..];
+    let after = told(rt, desk.receive(wire::byte(call, 1), reply, buffer))?;
+    show::looked(rt, buffer, 32, 4)?;
     Ok(after)
 }
 

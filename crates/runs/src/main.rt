@@ -8,7 +8,6 @@ ghost use Rattle.std.specs.Prelude.{◌≡◌, ◌≤◌, length, IfOk};
 ghost use Rattle.desk.specs.Record.{Good};
 
 use desk::Desk;
-use order_text::Decoded;
 use std::io;
 use std::io::Read;
 
@@ -25,12 +24,6 @@ fn call_space() -> [u8; 2048]
     ensures { 2048 ≡ length result }
 {
     [0; 2048]
-}
-
-pub(crate) fn least(a: usize, b: usize) -> usize
-    ensures { (result ≤ a) × (result ≤ b) }
-{
-    if a < b { a } else { b }
 }
 
 fn called(rt: &impl Print, desk: Desk, call: &[u8], memory: &mut [u8]) -> io::Result<Desk>
@@ -66,13 +59,11 @@ fn call_of(rt: &impl Print, line: &[u8], space: &mut [u8]) -> io::Result<usize>
     if wire::byte(line, 0) == b'#' {
         return Ok(0);
     }
-    match order_text::decode(line, space) {
-        Decoded::Bytes(n) => Ok(least(n, space.len())),
-        Decoded::Bad => {
-            show::words(rt, b"no such line\n")?;
-            Ok(0)
-        }
+    if let Some(n) = order_text::decode(line, space) {
+        return Ok(n);
     }
+    show::words(rt, b"no such line\n")?;
+    Ok(0)
 }
 
 // The end of a line, where a call of n bytes has printed one.

@@ -1,15 +1,20 @@
--- `order_text::encode_at` meets its contract: `write` writes the text of the bytes that have room.
-use Rattle.order_text.proofs.Text.{text_none, text_some}
+-- `order_text::encode_at` meets its contract.
+use mathlib.Core.Path.{◌≡◌, refl}
+use Prim.Native.Nat.{◌-◌}
+use native.Mathlib.Omega.{arith}
+use lib.ListN.{length, length-take, length-drop, take, drop}
+use Rattle.order_text.proofs.Text.{text_past, text_fits, text_behind}
 use Rattle.order_text.proofs.encode_at.Goals as goal
 
-pub returns-then-count-eq0 : goal.returns-then-count-eq0
-returns-then-count-eq0 c =
-    let k = c.fitting-count in
+pub returns-then-out-at : goal.returns-then-out-at
+returns-then-out-at c = text_past _ _ _ c.if-out-at.true
+
+pub overflow_add-result : goal.overflow_add-result
+overflow_add-result c =
     let a = c.args in
-    text_none a.out.now a.bytes.now a.at k.result k.ensures c.if-count-eq0.true
+    let n : length (take (length a.out.now - a.at) (drop a.at a.out.now)) ≡ length a.out.now - a.at = simp (length-take, length-drop) (omega arith) in
+    omega (arith, c.encode.ensures.0, text_fits (length (take (length a.out.now - a.at) (drop a.at a.out.now))) a.bytes.now)
 
 pub returns : goal.returns
 returns c =
-    let k = c.fitting-count in
-    let a = c.args in
-    text_some a.out.now a.bytes.now a.at k.result k.ensures _ c.write.ensures
+    text_behind _ _ _ _ _ _ refl c.if-out-at.false c.encode.ensures.0 c.encode.ensures.1

@@ -1,6 +1,0 @@
--- `cases::fill` ends.
-use Rattle.std.proofs.Common.{◌-◌, length}
-use Rattle.cases.proofs.fill.Given as goal
-
-abbrev pub decreases-loop-i : goal.decreases-loop-i
-decreases-loop-i l = length l.buffer - l.i
