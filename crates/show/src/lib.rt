@@ -21,20 +21,20 @@ pub fn next(rt: &impl Print, n: u64, width: usize) -> io::Result<()> {
 }
 
 pub fn answer(rt: &impl Print, answer: Answer) -> io::Result<()> {
-    number(rt, answer.number as u64, 2)?;
-    next(rt, answer.sub as u64, 2)?;
-    next(rt, answer.index as u64, 4)?;
-    next(rt, answer.code as u64, 8)?;
-    next(rt, answer.length as u64, 8)?;
-    next(rt, answer.data, 10)
+    let Answer {
+        number,
+        sub,
+        index,
+        code,
+        length,
+        data,
+    } = answer;
+    print!(rt; "{number:02x} {sub:02x} {index:04x} {code:08x} {length:08x} {data:010x}")
 }
 
 fn spelled(rt: &impl Print, s: &[u8], text: &mut [u8]) -> io::Result<()> {
     let n = order_text::encode(s, text);
-    if n <= text.len() {
-        words(rt, &text[0..n])?;
-    }
-    Ok(())
+    words(rt, &text[..n])
 }
 
 // As many of the bytes as have room in a buffer.
@@ -47,21 +47,12 @@ pub fn bytes(rt: &impl Print, s: &[u8]) -> io::Result<()> {
 pub fn check(s: &[u8]) -> u32
     ensures { result ≡ check_of 0 s.now }
 {
-    let mut sum = 0;
-    let mut i = 0;
-    while i < s.len() {
-        sum = (31 * sum + (s[i] as u32)) % 65521;
-        i += 1;
-    }
-    sum
+    s.iter()
+        .fold(0, |sum, &byte| (31 * sum + u32::from(byte)) % 65521)
 }
 
 pub fn first(rt: &impl Print, s: &[u8], most: usize) -> io::Result<()> {
-    if most < s.len() {
-        bytes(rt, &s[0..most])
-    } else {
-        bytes(rt, s)
-    }
+    bytes(rt, &s[..most.min(s.len())])
 }
 
 // The first `most` bytes, and the check of all.

@@ -1,13 +1,19 @@
--- `show::check` meets its contract. The invariant: what is left of the bytes, from the sum on, gives the check of all.
-use mathlib.Core.Path.{◌∙◌}
+-- `show::check` meets its contract: each byte turns the sum as the definition does, and the sum stays below 65521.
+use mathlib.Core.Path.{◌∙◌, sym}
+use Prim.Native.Nat.{◌<◌}
 use native.Mathlib.Omega.{arith}
-use Rattle.show.proofs.Sum.{check_turn, check_end}
+use borrow.Author.Rules.{rules}
+use Rattle.std.proofs.lemmas.Fn.{serves_by}
+use Rattle.std.proofs.lemmas.Iterator.{YieldsList-from_slice}
+use Rattle.std.proofs.lemmas.Iterator.Consumers.{fold_from_yields_List}
+use Rattle.show.proofs.Sum.{turned, check_of-fold}
 use Rattle.show.proofs.check.Goals as goal
 
-pub loop-i-preserved : goal.loop-i-preserved
-loop-i-preserved c =
-    (omega arith, omega arith, check_turn c.args.s.now c.loop-i.i c.loop-i.sum (omega arith) ∙ c.loop-i.invariant.2)
+pub fold-requires-clause-callable : goal.fold-requires-clause-callable
+fold-requires-clause-callable c =
+    serves_by _ (λ xs q. q.1 < 65521) (λ xs q x v j r. search rules) _ _ _ _ (omega arith) (λ xs t q x u y e j. search rules)
 
 pub returns : goal.returns
 returns c =
-    check_end c.args.s.now c.loop-i.i c.loop-i.sum (omega arith) ∙ c.loop-i.invariant.2
+    fold_from_yields_List _ turned 0 _ c.fold.ensures.ran (YieldsList-from_slice c.args.s.now (cc)) (λ a x b q k. search rules)
+    ∙ sym (check_of-fold 0 c.args.s.now)
