@@ -8,8 +8,10 @@ use native.Mathlib.Omega.{arith}
 use borrow.Author.Tests.{ltb-false, eqb-true}
 use lib.Dec.{ltb, leb, eqb}
 use lib.ListN.{length}
+use Rattle.std.specs.Prelude.{Some, None}
 use Rattle.wire.specs.Words.{pick}
 use Rattle.wire.proofs.Cases.{by}
+use Rattle.wire.specs.declared.refusal.Refusal.TheVariants.{Undecodable, WrongReply, TooLarge, MissingBytes, LengthField}
 use Rattle.mailbox.specs.Fields.{the, complete_size}
 use Rattle.mailbox.specs.Numbers.{command_number, operation_number}
 use Rattle.mailbox.specs.declared.numbers.CoeCommand.{CoeCommand}
@@ -24,7 +26,6 @@ use Rattle.judge.specs.Segment.{chunk_length, segment_of, on_segment_headers, ju
 use Rattle.judge.specs.Information.{fragment_at, fragment_of, on_information_headers, judge_list}
 use Rattle.judge.specs.declared.Verdict.{Verdict}
 use Rattle.judge.specs.declared.Verdict.TheVariants.{Refused, Emergency, Aborted, Done, SegmentsFollow, Segment, Fragment, ReplyDue}
-use Rattle.judge.specs.declared.chunk.Chunk.TheVariants.{There, Missing}
 use Rattle.judge.specs.declared.headers.Headers.{Headers}
 use Rattle.judge.specs.declared.headers.HeadersRead.{HeadersRead}
 use Rattle.judge.specs.declared.headers.SegmentHeaders.{SegmentHeaders}
@@ -42,10 +43,10 @@ there size from len =
 
 -- what holds of an SDO reply that is refused or raises an alarm
 pub record Alarming (P : Verdict → Type 0) : Type 0 where
-  pub refused : P (Refused 0x20)
+  pub refused : P (Refused Undecodable)
   pub emergency : (message : ℕ) → P (Emergency message)
   pub aborted : (sub index code : ℕ) → P (Aborted sub index code)
-  pub other : P (Refused 0x23)
+  pub other : P (Refused WrongReply)
 
 module _ (P : Verdict → Type 0) where
   test : (b : Bool) (v w : Verdict) → (b ≡ true → P v) → (b ≡ false → P w) → P (pick b v w)
@@ -88,7 +89,7 @@ module _ (P : Verdict → Type 0) where
   unfolding judge_download
   download_cases index sub s a p = reply_cases index sub s _ a λ h. download_rule (length s) a p
 
-  module _ (s : List ℕ) (missing : P (Refused 0x25)) (done : (from p : ℕ) → p ≤ length s - from → P (Done from p)) where
+  module _ (s : List ℕ) (missing : P (Refused MissingBytes)) (done : (from p : ℕ) → p ≤ length s - from → P (Done from p)) where
     expedited_rule : (unused : ℕ) → P (expedited_of (length s) unused)
     unfolding expedited_of
     expedited_rule unused =
@@ -98,36 +99,36 @@ module _ (P : Verdict → Type 0) where
     unfolding whole_of
     whole_rule d = test (lacking (length s) normal_at d) _ _ (λ e. missing) (λ e. done normal_at d (there (length s) normal_at d e))
 
-    normal_rule : (length_field n : ℕ) → Alarming P → P (Refused 0x24) → P SegmentsFollow → P (normal_of s length_field n)
+    normal_rule : (length_field n : ℕ) → Alarming P → P (Refused TooLarge) → P SegmentsFollow → P (normal_of s length_field n)
     unfolding normal_of
     normal_rule length_field n a big on =
         either_way (ltb (length s) normal_least) _ _ a.refused
         (either_way (ltb n (the complete_size s)) _ _ big
         (either_way (leb (the complete_size s) (d_of length_field)) _ _ (whole_rule (d_of length_field)) on))
 
-    upload_rule : (h : Headers) (n : ℕ) → Alarming P → P (Refused 0x24) → P SegmentsFollow → P (upload_of s h n)
+    upload_rule : (h : Headers) (n : ℕ) → Alarming P → P (Refused TooLarge) → P SegmentsFollow → P (upload_of s h n)
     unfolding upload_of
     upload_rule h n a big on =
         either_way h.sdo.expedited_transfer _ _ (expedited_rule h.sdo.size) (normal_rule h.mailbox.length n a big on)
 
-    pub upload_cases : (index sub n : ℕ) → Alarming P → P (Refused 0x24) → P SegmentsFollow → P (judge_upload index sub n s)
+    pub upload_cases : (index sub n : ℕ) → Alarming P → P (Refused TooLarge) → P SegmentsFollow → P (judge_upload index sub n s)
     unfolding judge_upload
     upload_cases index sub n a big on = reply_cases index sub s _ a λ h. upload_rule h n a big on
 
-  chunk_tests : (x b : Bool) (sum : ℕ) (f : ℕ → Verdict) → P (Refused 0x25) → (x ≡ false → b ≡ false → P (f sum))
-      → P (on_chunk (pick x Missing (pick b Missing (There sum))) f)
+  chunk_tests : (x b : Bool) (sum : ℕ) (f : ℕ → Verdict) → P (Refused MissingBytes) → (x ≡ false → b ≡ false → P (f sum))
+      → P (on_chunk (pick x None (pick b None (Some sum))) f)
   chunk_tests true b sum f r p = r
   chunk_tests false true sum f r p = r
   chunk_tests false false sum f r p = p refl refl
 
-  chunk_cases : (size from len earlier n : ℕ) (f : ℕ → Verdict) → P (Refused 0x25) → (len ≤ size - from → earlier + len ≤ n → P (f (earlier + len)))
+  chunk_cases : (size from len earlier n : ℕ) (f : ℕ → Verdict) → P (Refused MissingBytes) → (len ≤ size - from → earlier + len ≤ n → P (f (earlier + len)))
       → P (on_chunk (chunk_at size from len earlier n) f)
   unfolding chunk_at
   chunk_cases size from len earlier n f r p =
       chunk_tests (lacking size from len) (ltb n (earlier + len)) (earlier + len) f r λ e g.
       p (there size from len e) (ltb-false n (earlier + len) g)
 
-  module _ (s : List ℕ) (earlier n : ℕ) (short : P (Refused 0x26)) (missing : P (Refused 0x25)) where
+  module _ (s : List ℕ) (earlier n : ℕ) (short : P (Refused LengthField)) (missing : P (Refused MissingBytes)) where
     segment_rule : (h : SegmentHeaders) → ((from len : ℕ) (last : Bool) → len ≤ length s - from → earlier + len ≤ n → P (Segment from len (earlier + len) last))
         → P (segment_of (length s) h earlier n)
     unfolding segment_of
@@ -158,12 +159,12 @@ module _ (P : Verdict → Type 0) where
         either_way (ltb h.mailbox.length 8) _ _ short
         (chunk_cases (length s) from len earlier n _ missing (p from len (not h.information.incomplete)))
 
-    information_headers : (q : InformationHeadersRead) (f : InformationHeaders → Verdict) → P (Refused 0x20) → ((h : InformationHeaders) → P (f h))
+    information_headers : (q : InformationHeadersRead) (f : InformationHeaders → Verdict) → P (Refused Undecodable) → ((h : InformationHeaders) → P (f h))
         → P (on_information_headers q f)
     information_headers InformationHeadersRead.Undecodable f p q = p
     information_headers (InformationHeadersRead.Headers h) f p q = q h
 
-    pub list_cases : (begun : Bool) → P (Refused 0x20) → P ReplyDue
+    pub list_cases : (begun : Bool) → P (Refused Undecodable) → P ReplyDue
         → ((from len : ℕ) (last : Bool) → len ≤ length s - from → earlier + len ≤ n → P (Fragment from len (earlier + len) last))
         → P (judge_list begun earlier n s)
     unfolding judge_list

@@ -7,6 +7,7 @@ use Prim.Native.Nat.{ℕ}
 use borrow.Author.Tests.{eq-eqb, ne_eqb}
 use Rattle.std.specs.Prelude.{Result, Ok, Err}
 use Rattle.wire.specs.declared.refusal.Refusal.{Refusal}
+use Rattle.wire.specs.declared.refusal.Refusal.TheVariants.{Undecodable, WrongReply}
 use Rattle.mailbox.specs.Numbers.{command_number}
 use Rattle.mailbox.specs.declared.numbers.CoeCommand.{CoeCommand}
 use Rattle.judge.specs.Alarm.{emergency_in, abort_in}
@@ -28,7 +29,7 @@ module _ (s : List ℕ) (command : CoeCommand) (number : ℕ) (e : number ≡ co
   stopped wrong v four a = rw (← e, eq-eqb _ _ four, a)
 
   module _ (other : number ≡ 4 → ⊥) (w wrong : Bool) (same : w ≡ wrong) where
-    pub astray : w ≡ true → Refused 0x23 ≡ in_order s command wrong own
+    pub astray : w ≡ true → Refused WrongReply ≡ in_order s command wrong own
     unfolding in_order
     astray t = rw (← e, ne_eqb _ _ other, ← same, t)
 
@@ -38,7 +39,7 @@ module _ (s : List ℕ) (command : CoeCommand) (number : ℕ) (e : number ≡ co
 
 -- what headers were read, of an upload and a download
 module _ (s : List ℕ) (r q : HeadersRead) (e : r ≡ q) (f : Headers → Verdict) where
-  pub unheaded : r ≡ HeadersRead.Undecodable → Refused 0x20 ≡ on_headers s q f
+  pub unheaded : r ≡ HeadersRead.Undecodable → Refused Undecodable ≡ on_headers s q f
   unheaded t = rw (← e, t)
 
   pub alarmed : (v : Verdict) → r ≡ HeadersRead.Emergency → v ≡ emergency_in s → v ≡ on_headers s q f
@@ -51,7 +52,7 @@ pub ruleset order = (stopped, astray, heard, unheaded, alarmed, headed)
 
 -- and of a segment
 module _ (s : List ℕ) (r q : SegmentHeadersRead) (e : r ≡ q) (f : SegmentHeaders → Verdict) where
-  pub unheaded_segment : r ≡ SegmentHeadersRead.Undecodable → Refused 0x20 ≡ on_segment_headers s q f
+  pub unheaded_segment : r ≡ SegmentHeadersRead.Undecodable → Refused Undecodable ≡ on_segment_headers s q f
   unheaded_segment t = rw (← e, t)
 
   pub alarmed_segment : (v : Verdict) → r ≡ SegmentHeadersRead.Emergency → v ≡ emergency_in s → v ≡ on_segment_headers s q f

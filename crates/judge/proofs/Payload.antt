@@ -6,7 +6,10 @@ use Prim.Native.Nat.{ℕ, ◌+◌, ◌-◌, ◌≤◌}
 use native.Mathlib.Omega.{arith}
 use lib.Dec.{leb}
 use lib.ListN.{length, length-append, length-take, length-drop}
+use Rattle.wire.specs.Refusal.{number_of}
 use Rattle.wire.specs.Store.{laid, part}
+use Rattle.wire.specs.declared.refusal.Refusal.{Refusal}
+use Rattle.wire.specs.declared.refusal.Refusal.TheVariants.{Undecodable, WrongReply, MissingBytes, LengthField}
 use Rattle.judge.specs.Answers.{done_or, answer_of}
 use Rattle.judge.specs.Download.{judge_download}
 use Rattle.judge.specs.Upload.{judge_upload}
@@ -15,7 +18,7 @@ use Rattle.judge.specs.Information.{judge_list}
 use Rattle.judge.specs.Storage.{taken, stored}
 use Rattle.judge.specs.Replies.{Judge, by_upload, by_download, by_segments, by_fragments, SoFar, fresh, judged_in, next, after, holding, KeptOnDone, sum_after}
 use Rattle.judge.specs.declared.Verdict.{Verdict}
-use Rattle.judge.specs.declared.Verdict.TheVariants.{Refused, Emergency, Aborted, Done, SegmentsFollow, Segment, Fragment, ReplyDue}
+use Rattle.judge.specs.declared.Verdict.TheVariants.{Refused, Emergency, Aborted, Done, Segment, Fragment, ReplyDue}
 use Rattle.judge.proofs.Cases.{Alarming, upload_cases, download_cases, segment_cases, list_cases}
 use Rattle.judge.proofs.Laid.{laid_nil, laid_front, laid_length, laid_join}
 
@@ -39,24 +42,24 @@ module _ (earlier n : ℕ) (s : List ℕ) where
   nothing : (v : Verdict) → sum_after earlier v ≡ earlier → length (taken v s) ≡ 0 → ((answer_of v).number ≡ 0x00 → ⊥) → Sound earlier n s v
   nothing v e z never = record { sum = omega arith; fits = λ h. omega arith; ends = λ d. absurd (never d) }
 
-  refused : (number : ℕ) → (number ≡ 0 → ⊥) → Sound earlier n s (Refused number)
+  refused : (r : Refusal) → (number_of r ≡ 0 → ⊥) → Sound earlier n s (Refused r)
   unfolding answer_of
-  refused number never = nothing (Refused number) refl refl never
+  refused r never = nothing (Refused r) refl refl never
 
   alarming : Alarming (Sound earlier n s)
   unfolding answer_of
   alarming =
       record {
-        refused = refused 0x20 (λ e. omega arith);
+        refused = refused Undecodable (λ e. omega arith);
         emergency = λ m. nothing (Emergency m) refl refl (λ e. omega arith);
         aborted = λ b i c. nothing (Aborted b i c) refl refl (λ e. omega arith);
-        other = refused 0x23 (λ e. omega arith);
+        other = refused WrongReply (λ e. omega arith);
       }
 
   pub segment_sound : Sound earlier n s (judge_segment earlier n s)
   unfolding answer_of
   segment_sound =
-      segment_cases (Sound earlier n s) s earlier n (refused 0x26 (λ e. omega arith)) (refused 0x25 (λ e. omega arith)) alarming λ from len last h k.
+      segment_cases (Sound earlier n s) s earlier n (refused LengthField (λ e. omega arith)) (refused MissingBytes (λ e. omega arith)) alarming λ from len last h k.
       let l : length (part s from len) ≡ len = part_length s from len h in
       record {
         sum = omega arith;
@@ -67,8 +70,8 @@ module _ (earlier n : ℕ) (s : List ℕ) where
   pub list_sound : (begun : Bool) → Sound earlier n s (judge_list begun earlier n s)
   unfolding answer_of
   list_sound begun =
-      list_cases (Sound earlier n s) s earlier n (refused 0x26 (λ e. omega arith)) (refused 0x25 (λ e. omega arith)) begun
-      (refused 0x20 (λ e. omega arith)) (nothing ReplyDue refl refl (λ e. omega arith)) λ from len last h k.
+      list_cases (Sound earlier n s) s earlier n (refused LengthField (λ e. omega arith)) (refused MissingBytes (λ e. omega arith)) begun
+      (refused Undecodable (λ e. omega arith)) (nothing ReplyDue refl refl (λ e. omega arith)) λ from len last h k.
       let l : length (part s from len) ≡ len = part_length s from len h in
       record {
         sum = omega arith;
@@ -201,11 +204,7 @@ done_below false sum number b e = false≢true (sym b ∙ e)
 
 pub refused_stores_nothing : (v : Verdict) (s : List ℕ) (at : ℕ) (d : List ℕ) → leb 0x20 (answer_of v).number ≡ true → stored v s at d ≡ d
 unfolding answer_of stored
-refused_stores_nothing (Refused n) s at d e = sym (laid_nil d at)
-refused_stores_nothing (Emergency m) s at d e = sym (laid_nil d at)
-refused_stores_nothing (Aborted b i c) s at d e = sym (laid_nil d at)
 refused_stores_nothing (Done f p) s at d e = absurd (false≢true e)
-refused_stores_nothing SegmentsFollow s at d e = sym (laid_nil d at)
 refused_stores_nothing (Segment f k sum l) s at d e = absurd (done_below l sum 0x01 refl e)
 refused_stores_nothing (Fragment f k sum l) s at d e = absurd (done_below l sum 0x02 refl e)
-refused_stores_nothing ReplyDue s at d e = sym (laid_nil d at)
+refused_stores_nothing other s at d e = sym (laid_nil d at)

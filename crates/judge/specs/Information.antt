@@ -1,6 +1,7 @@
 -- Replies to the request for an object list. "Information replies: one request, many replies." Assumes nothing.
 use Rattle.std.specs.Prelude.{Bool, not, List, ℕ, ◌-◌, ltb, eqb, length}
 use Rattle.wire.specs.Words.{pick}
+use Rattle.wire.specs.declared.refusal.Refusal.TheVariants.{Undecodable, LengthField}
 use Rattle.mailbox.specs.Numbers.{operation_number}
 use Rattle.judge.specs.Places.{first_fragment_at, later_fragment_at}
 use Rattle.judge.specs.Headers.{read_information_headers}
@@ -18,12 +19,12 @@ fragment_at begun = pick begun later_fragment_at first_fragment_at
 -- due; clear: done."
 unfoldable pub fragment_of : ℕ → InformationHeaders → ℕ → ℕ → ℕ → Verdict
 fragment_of size h from earlier n =
-    pick (ltb h.mailbox.length 8) (Refused 0x26)
+    pick (ltb h.mailbox.length 8) (Refused LengthField)
     (on_chunk (chunk_at size from (h.mailbox.length - 8) earlier n) λ sum.
     Fragment from (h.mailbox.length - 8) sum (not h.information.incomplete))
 
 abbrev pub on_information_headers : InformationHeadersRead → (InformationHeaders → Verdict) → Verdict
-on_information_headers InformationHeadersRead.Undecodable f = Refused 0x20
+on_information_headers InformationHeadersRead.Undecodable f = Refused Undecodable
 on_information_headers (InformationHeadersRead.Headers h) f = f h
 
 -- "Under 12 bytes or an unlisted type, service or operation: 20. Operation other than 2: reply due, nothing stored."

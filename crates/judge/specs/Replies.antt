@@ -10,7 +10,7 @@ use Rattle.judge.specs.Information.{judge_list}
 use Rattle.judge.specs.Storage.{taken, stored}
 use Rattle.judge.specs.declared.Answer.{Answer}
 use Rattle.judge.specs.declared.Verdict.{Verdict}
-use Rattle.judge.specs.declared.Verdict.TheVariants.{Refused, Emergency, Aborted, Done, SegmentsFollow, Segment, Fragment, ReplyDue}
+use Rattle.judge.specs.declared.Verdict.TheVariants.{Segment, Fragment}
 
 -- how a reply is judged: by whether the list has begun, by the sum of the earlier chunks, and by N
 abbrev pub Judge : Type 0
@@ -39,14 +39,8 @@ fresh d = record { begun = false; payload = []; buffer = d }
 
 -- "the first operation 2 reply" begins the list
 abbrev pub begins : Verdict → Bool
-begins (Refused n) = false
-begins (Emergency message) = false
-begins (Aborted sub index code) = false
-begins (Done from p) = false
-begins SegmentsFollow = false
-begins (Segment from len sum last) = false
 begins (Fragment from len sum last) = true
-begins ReplyDue = false
+begins other = false
 
 abbrev pub judged_in : Judge → SoFar → List ℕ → Verdict
 judged_in judge r s = judge r.begun (length r.payload) (length r.buffer) s
@@ -83,9 +77,4 @@ KeptOnDone judge d ss s =
 abbrev pub sum_after : ℕ → Verdict → ℕ
 sum_after earlier (Segment from len sum last) = sum
 sum_after earlier (Fragment from len sum last) = sum
-sum_after earlier (Refused n) = earlier
-sum_after earlier (Emergency message) = earlier
-sum_after earlier (Aborted sub index code) = earlier
-sum_after earlier (Done from p) = earlier
-sum_after earlier SegmentsFollow = earlier
-sum_after earlier ReplyDue = earlier
+sum_after earlier other = earlier

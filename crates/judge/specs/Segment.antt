@@ -1,6 +1,7 @@
 -- The reply to the request for a segment. Assumes nothing.
 use Rattle.std.specs.Prelude.{List, ℕ, ◌-◌, ltb, eqb, length}
 use Rattle.wire.specs.Words.{pick}
+use Rattle.wire.specs.declared.refusal.Refusal.TheVariants.{Undecodable, LengthField}
 use Rattle.judge.specs.Places.{segment_at}
 use Rattle.judge.specs.Headers.{read_segment_headers, wrong_type}
 use Rattle.judge.specs.Alarm.{emergency_in}
@@ -19,12 +20,12 @@ chunk_length length_field unused = pick (eqb (length_field - 3) 7) (7 - unused) 
 -- chunk that is said: bytes that the unused count takes off need not be there.
 unfoldable pub segment_of : ℕ → SegmentHeaders → ℕ → ℕ → Verdict
 segment_of size h earlier n =
-    pick (ltb h.mailbox.length 3) (Refused 0x26)
+    pick (ltb h.mailbox.length 3) (Refused LengthField)
     (on_chunk (chunk_at size segment_at (chunk_length h.mailbox.length h.segment.segment_data_size) earlier n) λ sum.
     Segment segment_at (chunk_length h.mailbox.length h.segment.segment_data_size) sum h.segment.is_last_segment)
 
 abbrev pub on_segment_headers : List ℕ → SegmentHeadersRead → (SegmentHeaders → Verdict) → Verdict
-on_segment_headers s SegmentHeadersRead.Undecodable f = Refused 0x20
+on_segment_headers s SegmentHeadersRead.Undecodable f = Refused Undecodable
 on_segment_headers s SegmentHeadersRead.Emergency f = emergency_in s
 on_segment_headers s (SegmentHeadersRead.Headers h) f = f h
 

@@ -2,18 +2,14 @@
 use Rattle.std.specs.Prelude.{List, [], ℕ}
 use Rattle.wire.specs.Store.{laid, part}
 use Rattle.judge.specs.declared.Verdict.{Verdict}
-use Rattle.judge.specs.declared.Verdict.TheVariants.{Refused, Emergency, Aborted, Done, SegmentsFollow, Segment, Fragment, ReplyDue}
+use Rattle.judge.specs.declared.Verdict.TheVariants.{Done, Segment, Fragment}
 
 -- the bytes of the reply that a verdict takes
 abbrev pub taken : Verdict → List ℕ → List ℕ
-taken (Refused n) s = []
-taken (Emergency message) s = []
-taken (Aborted sub index code) s = []
 taken (Done from p) s = part s from p
-taken SegmentsFollow s = []
 taken (Segment from len sum last) s = part s from len
 taken (Fragment from len sum last) s = part s from len
-taken ReplyDue s = []
+taken other s = []
 
 -- "Each call writes only its own chunk, at the sum of the earlier ones." As far as the buffer d reaches.
 unfoldable pub stored : Verdict → List ℕ → ℕ → List ℕ → List ℕ

@@ -4,13 +4,14 @@ ghost use Rattle.judge.specs.Alarm.{emergency_in, abort_in};
 
 use crate::Verdict;
 use crate::places::{ABORT_CODE, ABORT_LEAST, EMERGENCY_LEAST, INDEX, MESSAGE_AT, SUB_INDEX};
+use wire::refusal::Refusal;
 
 // Rule 2, of service 1.
 pub(crate) fn emergency(s: &[u8]) -> Verdict
     ensures { result ≡ emergency_in s.now }
 {
     if s.len() < EMERGENCY_LEAST {
-        return Verdict::Refused(0x20);
+        return Verdict::Refused(Refusal::Undecodable);
     }
     Verdict::Emergency(wire::eight_at(s, MESSAGE_AT))
 }
@@ -20,7 +21,7 @@ pub(crate) fn abort(s: &[u8]) -> Verdict
     ensures { result ≡ abort_in s.now }
 {
     if s.len() < ABORT_LEAST {
-        return Verdict::Refused(0x20);
+        return Verdict::Refused(Refusal::Undecodable);
     }
     Verdict::Aborted {
         sub: wire::byte(s, SUB_INDEX),

@@ -6,13 +6,14 @@ use crate::Verdict;
 use crate::alarm::{abort, emergency};
 use crate::headers::{HeadersRead, read_headers, wrong_address};
 use crate::places::DOWNLOAD_LEAST;
+use wire::refusal::Refusal;
 
 #[tactic(auto, using(wire::proofs::Tests::tests), unfolding(crate::specs::Download::download_of))]
 fn download(size: usize) -> Verdict
     ensures { result ≡ download_of size }
 {
     if size < DOWNLOAD_LEAST {
-        return Verdict::Refused(0x20);
+        return Verdict::Refused(Refusal::Undecodable);
     }
     Verdict::Done { from: 0, len: 0 }
 }
@@ -24,7 +25,7 @@ pub fn judge_download(s: &[u8], index: u16, sub: u8) -> Verdict
 {
     let read = read_headers(s);
     match read {
-        HeadersRead::Undecodable => Verdict::Refused(0x20),
+        HeadersRead::Undecodable => Verdict::Refused(Refusal::Undecodable),
         HeadersRead::Emergency => emergency(s),
         HeadersRead::Headers(h) => {
             let sdo = h.sdo;
@@ -33,7 +34,7 @@ pub fn judge_download(s: &[u8], index: u16, sub: u8) -> Verdict
                 return abort(s);
             }
             if wrong_address(h, index, sub) {
-                return Verdict::Refused(0x23);
+                return Verdict::Refused(Refusal::WrongReply);
             }
             download(s.len())
         }

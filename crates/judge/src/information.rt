@@ -3,9 +3,10 @@ ghost use Rattle.std.specs.Prelude.{◌≡◌};
 ghost use Rattle.judge.specs.Information.{fragment_at, fragment_of, judge_list};
 
 use crate::Verdict;
-use crate::chunk::{Chunk, chunk_at, less};
+use crate::chunk::chunk_at;
 use crate::headers::{InformationHeaders, InformationHeadersRead, read_information_headers};
 use crate::places::{FIRST_FRAGMENT_AT, LATER_FRAGMENT_AT};
+use wire::refusal::Refusal;
 
 fn fragment_at(begun: bool) -> u8
     ensures { result ≡ fragment_at begun }
@@ -21,11 +22,11 @@ fn fragment(size: usize, h: InformationHeaders, from: u8, earlier: u32, n: u32) 
     ensures { result ≡ fragment_of size h from earlier n }
 {
     if h.mailbox.length < 8 {
-        return Verdict::Refused(0x26);
+        return Verdict::Refused(Refusal::LengthField);
     }
-    let len = less(h.mailbox.length, 8);
-    let Chunk::There(sum) = chunk_at(size, from, len, earlier, n) else {
-        return Verdict::Refused(0x25);
+    let len = h.mailbox.length - 8;
+    let Some(sum) = chunk_at(size, from, len, earlier, n) else {
+        return Verdict::Refused(Refusal::MissingBytes);
     };
     Verdict::Fragment {
         from,
@@ -40,7 +41,7 @@ pub fn judge_list(s: &[u8], begun: bool, earlier: u32, n: u32) -> Verdict
     ensures { result ≡ judge_list begun earlier n s.now }
 {
     let InformationHeadersRead::Headers(h) = read_information_headers(s) else {
-        return Verdict::Refused(0x20);
+        return Verdict::Refused(Refusal::Undecodable);
     };
     let information = h.information;
     let operation = information.op_code;

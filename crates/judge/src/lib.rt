@@ -6,8 +6,10 @@
 ghost use Rattle.std.specs.Prelude.{◌≡◌};
 ghost use Rattle.judge.specs.Answers.{plain_of, done_with, done_or, answer_of};
 
+use wire::refusal::Refusal;
+
 mod alarm;
-pub mod chunk;
+mod chunk;
 pub mod download;
 pub mod headers;
 pub mod information;
@@ -23,9 +25,10 @@ pub use storage::store;
 pub use upload::judge_upload;
 
 // A chunk is the reply's len bytes from byte `from` on; sum is the earlier chunks and this one.
-#[derive(Clone, Copy)]
+#[derive(Clone, Copy, Debug, PartialEq, Eq)]
 pub enum Verdict {
-    Refused(u8),
+    // No Result around the rest: a segment of 1,486 bytes would take some forty instructions more, and miss its bound (docs/SPEED.md).
+    Refused(Refusal),
     // Its eight bytes as one number. With its fields apart, or an abort's in another order, each judge is more than the compiler puts into
     // its callers, and every reply takes some forty instructions more.
     Emergency(u64),
@@ -56,7 +59,7 @@ pub enum Verdict {
 
 // The table's number and the values that go with it, 0 where one plays no part.
 #[repr(C)]
-#[derive(Clone, Copy)]
+#[derive(Clone, Copy, Debug, PartialEq, Eq)]
 pub struct Answer {
     pub number: u8,
     pub sub: u8,
@@ -105,7 +108,7 @@ pub fn answer_of(verdict: Verdict) -> Answer
     ensures { result ≡ answer_of verdict }
 {
     match verdict {
-        Verdict::Refused(number) => plain(number),
+        Verdict::Refused(refusal) => plain(refusal.number()),
         Verdict::Emergency(message) => Answer {
             number: 0x21,
             sub: (message / 65536 % 256) as u8,
@@ -122,20 +125,10 @@ pub fn answer_of(verdict: Verdict) -> Answer
             length: 0,
             data: 0,
         },
-        Verdict::Done { from: _, len } => done(len as u32),
+        Verdict::Done { len, .. } => done(len as u32),
         Verdict::SegmentsFollow => plain(0x01),
-        Verdict::Segment {
-            from: _,
-            len: _,
-            sum,
-            last,
-        } => done_or(last, sum, 0x01),
-        Verdict::Fragment {
-            from: _,
-            len: _,
-            sum,
-            last,
-        } => done_or(last, sum, 0x02),
+        Verdict::Segment { sum, last, .. } => done_or(last, sum, 0x01),
+        Verdict::Fragment { sum, last, .. } => done_or(last, sum, 0x02),
         Verdict::ReplyDue => plain(0x02),
     }
 }

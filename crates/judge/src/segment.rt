@@ -4,17 +4,18 @@ ghost use Rattle.judge.specs.Segment.{chunk_length, segment_of, judge_segment};
 
 use crate::Verdict;
 use crate::alarm::{abort, emergency};
-use crate::chunk::{Chunk, chunk_at, less};
+use crate::chunk::chunk_at;
 use crate::headers::{SegmentHeaders, SegmentHeadersRead, read_segment_headers, wrong_type};
 use crate::places::SEGMENT_AT;
+use wire::refusal::Refusal;
 
 // Only of a chunk of exactly 7 the unused count is taken off.
 fn chunk_length(length: u16, unused: u8) -> u16
     ensures { result ≡ chunk_length length unused }
 {
-    let len = less(length, 3);
+    let len = length.saturating_sub(3);
     if len == 7 {
-        return less(7, unused as u16);
+        return 7_u16.saturating_sub(unused as u16);
     }
     len
 }
@@ -23,11 +24,11 @@ fn segment(size: usize, h: SegmentHeaders, earlier: u32, n: u32) -> Verdict
     ensures { result ≡ segment_of size h earlier n }
 {
     if h.mailbox.length < 3 {
-        return Verdict::Refused(0x26);
+        return Verdict::Refused(Refusal::LengthField);
     }
     let len = chunk_length(h.mailbox.length, h.segment.segment_data_size);
-    let Chunk::There(sum) = chunk_at(size, SEGMENT_AT, len, earlier, n) else {
-        return Verdict::Refused(0x25);
+    let Some(sum) = chunk_at(size, SEGMENT_AT, len, earlier, n) else {
+        return Verdict::Refused(Refusal::MissingBytes);
     };
     Verdict::Segment {
         from: SEGMENT_AT,
@@ -44,7 +45,7 @@ pub fn judge_segment(s: &[u8], earlier: u32, n: u32) -> Verdict
 {
     let read = read_segment_headers(s);
     match read {
-        SegmentHeadersRead::Undecodable => Verdict::Refused(0x20),
+        SegmentHeadersRead::Undecodable => Verdict::Refused(Refusal::Undecodable),
         SegmentHeadersRead::Emergency => emergency(s),
         SegmentHeadersRead::Headers(h) => {
             let mailbox = h.mailbox;
@@ -54,7 +55,7 @@ pub fn judge_segment(s: &[u8], earlier: u32, n: u32) -> Verdict
                 return abort(s);
             }
             if wrong_type(mailbox) {
-                return Verdict::Refused(0x23);
+                return Verdict::Refused(Refusal::WrongReply);
             }
             segment(s.len(), h, earlier, n)
         }

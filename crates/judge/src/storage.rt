@@ -8,30 +8,10 @@ use crate::Verdict;
 pub fn store(verdict: Verdict, s: &[u8], buffer: &mut [u8], at: usize)
     ensures { buffer.new ≡ stored verdict s.now at buffer.old }
 {
-    match verdict {
-        Verdict::Refused(_) => {}
-        Verdict::Emergency(_) => {}
-        Verdict::Aborted {
-            sub: _,
-            index: _,
-            code: _,
-        } => {}
-        Verdict::Done { from, len } => {
-            wire::store_chunk(s, from as usize, len as usize, buffer, at)
-        }
-        Verdict::SegmentsFollow => {}
-        Verdict::Segment {
-            from,
-            len,
-            sum: _,
-            last: _,
-        } => wire::store_chunk(s, from as usize, len as usize, buffer, at),
-        Verdict::Fragment {
-            from,
-            len,
-            sum: _,
-            last: _,
-        } => wire::store_chunk(s, from as usize, len as usize, buffer, at),
-        Verdict::ReplyDue => {}
+    if let Verdict::Done { from, len }
+    | Verdict::Segment { from, len, .. }
+    | Verdict::Fragment { from, len, .. } = verdict
+    {
+        wire::store_chunk(s, from as usize, len as usize, buffer, at);
     }
 }

@@ -4,16 +4,17 @@ ghost use Rattle.judge.specs.Upload.{expedited_of, whole_of, normal_of, upload_o
 
 use crate::Verdict;
 use crate::alarm::{abort, emergency};
-use crate::chunk::{lacks, less};
+use crate::chunk::lacks;
 use crate::headers::{Headers, HeadersRead, read_headers, wrong_address};
 use crate::places::{COMPLETE_SIZE, EXPEDITED_AT, NORMAL_AT, NORMAL_LEAST};
+use wire::refusal::Refusal;
 
 fn expedited(size: usize, unused: u8) -> Verdict
     ensures { result ≡ expedited_of size unused }
 {
-    let len = less(4, unused as u16);
+    let len = 4_u16.saturating_sub(unused as u16);
     if lacks(size, EXPEDITED_AT, len) {
-        return Verdict::Refused(0x25);
+        return Verdict::Refused(Refusal::MissingBytes);
     }
     Verdict::Done {
         from: EXPEDITED_AT,
@@ -27,7 +28,7 @@ fn whole(size: usize, len: u16) -> Verdict
     ensures { result ≡ whole_of size len }
 {
     if size < (NORMAL_AT as usize) + (len as usize) {
-        return Verdict::Refused(0x25);
+        return Verdict::Refused(Refusal::MissingBytes);
     }
     Verdict::Done {
         from: NORMAL_AT,
@@ -39,13 +40,13 @@ fn normal(s: &[u8], length: u16, n: u32) -> Verdict
     ensures { result ≡ normal_of s.now length n }
 {
     if s.len() < NORMAL_LEAST {
-        return Verdict::Refused(0x20);
+        return Verdict::Refused(Refusal::Undecodable);
     }
     let complete_size = wire::long_at(s, COMPLETE_SIZE);
     if n < complete_size {
-        return Verdict::Refused(0x24);
+        return Verdict::Refused(Refusal::TooLarge);
     }
-    let d = less(length, 10);
+    let d = length.saturating_sub(10);
     if complete_size <= (d as u32) {
         return whole(s.len(), d);
     }
@@ -68,7 +69,7 @@ pub fn judge_upload(s: &[u8], index: u16, sub: u8, n: u32) -> Verdict
 {
     let read = read_headers(s);
     match read {
-        HeadersRead::Undecodable => Verdict::Refused(0x20),
+        HeadersRead::Undecodable => Verdict::Refused(Refusal::Undecodable),
         HeadersRead::Emergency => emergency(s),
         HeadersRead::Headers(h) => {
             let sdo = h.sdo;
@@ -77,7 +78,7 @@ pub fn judge_upload(s: &[u8], index: u16, sub: u8, n: u32) -> Verdict
                 return abort(s);
             }
             if wrong_address(h, index, sub) {
-                return Verdict::Refused(0x23);
+                return Verdict::Refused(Refusal::WrongReply);
             }
             upload(s, h, n)
         }

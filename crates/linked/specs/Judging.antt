@@ -10,7 +10,7 @@ use Rattle.judge.specs.Information.{judge_list}
 use Rattle.judge.specs.Storage.{stored}
 use Rattle.judge.specs.declared.Answer.{Answer}
 use Rattle.judge.specs.declared.Verdict.{Verdict}
-use Rattle.judge.specs.declared.Verdict.TheVariants.{Refused, Emergency, Aborted, Done, SegmentsFollow, Segment, Fragment, ReplyDue}
+use Rattle.judge.specs.declared.Verdict.TheVariants.{Segment, Fragment, ReplyDue}
 
 -- the kinds are 1 upload, 3 download, 4 list not begun, 7 segment, 8 list begun; "an unknown kind" is 15
 unfoldable pub unjudged : ℕ → Bool
@@ -48,14 +48,10 @@ unfoldable pub begun_by : ℕ → ℕ
 begun_by kind = pick (eqb kind 8) 1 0
 
 unfoldable pub told_of : ℕ → Verdict → Answer
-told_of kind (Refused n) = answer_of (Refused n)
-told_of kind (Emergency message) = answer_of (Emergency message)
-told_of kind (Aborted sub index code) = answer_of (Aborted sub index code)
-told_of kind (Done from p) = answer_of (Done from p)
-told_of kind SegmentsFollow = answer_of SegmentsFollow
 told_of kind (Segment from len sum last) = goes_on last (answer_of (Segment from len sum last)) 0x01 0 len
 told_of kind (Fragment from len sum last) = goes_on last (answer_of (Fragment from len sum last)) 0x02 1 len
 told_of kind ReplyDue = went_on 0x02 (begun_by kind) 0
+told_of kind v = answer_of v
 
 -- ---- "15 .. stands before 16"; 16: "reply above 1,486, N above 131,070"
 

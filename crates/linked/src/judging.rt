@@ -89,33 +89,16 @@ fn begun_by(kind: u8) -> u8
     0
 }
 
+#[tactic(auto, unfolding(crate::specs::Judging::told_of))]
 fn told_of(kind: u8, verdict: Verdict) -> Answer
     ensures { result ≡ told_of kind verdict }
 {
     let answer = answer_of(verdict);
     match verdict {
-        Verdict::Refused(_) => answer,
-        Verdict::Emergency(_) => answer,
-        Verdict::Aborted {
-            sub: _,
-            index: _,
-            code: _,
-        } => answer,
-        Verdict::Done { from: _, len: _ } => answer,
-        Verdict::SegmentsFollow => answer,
-        Verdict::Segment {
-            from: _,
-            len,
-            sum: _,
-            last,
-        } => goes_on(last, answer, 0x01, 0, len),
-        Verdict::Fragment {
-            from: _,
-            len,
-            sum: _,
-            last,
-        } => goes_on(last, answer, 0x02, 1, len),
+        Verdict::Segment { len, last, .. } => goes_on(last, answer, 0x01, 0, len),
+        Verdict::Fragment { len, last, .. } => goes_on(last, answer, 0x02, 1, len),
         Verdict::ReplyDue => went_on(0x02, begun_by(kind), 0),
+        _ => answer,
     }
 }
 

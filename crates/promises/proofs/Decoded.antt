@@ -175,11 +175,11 @@ module _ (s : List ℕ) where
   information_read = read_in_turn 12 (omega arith) InformationHeadersRead.Undecodable (Err Undecodable) _ information_in (λ m c. refl)
 
   -- "Under 12 bytes, or an unlisted type, service ..": of any least length, and whatever is made of the first two headers
-  module _ (least : ℕ) {H K : Type 0} (on : H → (K → Verdict) → Verdict) (f : K → Verdict) (none : H) (refused : on none f ≡ Refused 0x20) where
+  module _ (least : ℕ) {H K : Type 0} (on : H → (K → Verdict) → Verdict) (f : K → Verdict) (none : H) (refused : on none f ≡ Refused Undecodable) where
     abbrev judged : (MailboxHeader → CoeHeader → H) → Result MailboxType Refusal → Result CoeService Refusal → Verdict
     judged make a b = on (in_turn none make a b) f
 
-    on_pick : (b : Bool) (h : H) → on (pick b none h) f ≡ pick b (Refused 0x20) (on h f)
+    on_pick : (b : Bool) (h : H) → on (pick b none h) f ≡ pick b (Refused Undecodable) (on h f)
     on_pick true h = refused
     on_pick false h = refl
 
@@ -194,7 +194,7 @@ module _ (s : List ℕ) where
     unfolding answer_of
     decoded make p =
         rw (on_pick (under least s))
-        (line s (under least s) (Refused 0x20) _
+        (line s (under least s) (Refused Undecodable) _
         (listed s (type_look (the mailbox_type s)) (λ a. judged make a (names.service_of (the service s))) refused λ t et.
         listed s (service_look (the service s)) (judged make (Ok t)) refused λ v ev.
         p t v et ev))

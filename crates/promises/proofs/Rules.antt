@@ -8,9 +8,10 @@ use native.Mathlib.Omega.{arith}
 use borrow.Author.Tests.{eqb-true, eqb-false, ltb-true, ltb-false, lt-ltb, le-ltb}
 use lib.Dec.{ltb, leb, eqb}
 use lib.ListN.{length}
-use Rattle.std.specs.Prelude.{Ok}
+use Rattle.std.specs.Prelude.{Ok, Some, None}
 use Rattle.wire.specs.Words.{pick, both, first_of, map_ok}
 use Rattle.wire.proofs.Cases.{by}
+use Rattle.wire.specs.declared.refusal.Refusal.TheVariants.{WrongReply, MissingBytes}
 use Rattle.mailbox.specs.Fields.{the, length_field, mailbox_type, expedited, size, specifier, index, sub_index, last_segment, unused_count, operation, incomplete}
 use Rattle.mailbox.specs.Numbers.{command_number}
 use Rattle.mailbox.specs.Headers.{sdo_header_of, segmented_of, sdo_info_of}
@@ -28,7 +29,6 @@ use Rattle.judge.specs.Segment.{chunk_length, segment_of, on_segment_headers, ju
 use Rattle.judge.specs.Information.{fragment_at, fragment_of, on_information_headers, judge_list}
 use Rattle.judge.specs.declared.Verdict.{Verdict}
 use Rattle.judge.specs.declared.Verdict.TheVariants.{Refused, Segment, Fragment}
-use Rattle.judge.specs.declared.chunk.Chunk.TheVariants.{There, Missing}
 use Rattle.judge.specs.declared.headers.Headers.{Headers}
 use Rattle.judge.specs.declared.headers.HeadersRead.TheVariants as HeadersRead
 use Rattle.judge.specs.declared.headers.SegmentHeadersRead.TheVariants as SegmentHeadersRead
@@ -59,7 +59,7 @@ chunk_length_lem k unused =
     (λ n. rw n)
 
 chunk_picks : (b c : Bool) (sum : ℕ) (f : ℕ → Verdict)
-    → on_chunk (pick b Missing (pick c Missing (There sum))) f ≡ pick b (Refused 0x25) (pick c (Refused 0x25) (f sum))
+    → on_chunk (pick b None (pick c None (Some sum))) f ≡ pick b (Refused MissingBytes) (pick c (Refused MissingBytes) (f sum))
 chunk_picks true c sum f = refl
 chunk_picks false true sum f = refl
 chunk_picks false false sum f = refl
@@ -76,13 +76,13 @@ fragment_place false = refl
 module _ (s : List ℕ) where
   -- rule 3, and behind it the fourth
   abort_lines : (k : CoeCommand) → command_number k ≡ the specifier s
-      → (wrong : Bool) (own : Verdict) {x : Option Finding} → Tells s (pick wrong (Refused 0x23) own) x
+      → (wrong : Bool) (own : Verdict) {x : Option Finding} → Tells s (pick wrong (Refused WrongReply) own) x
       → Tells s (in_order s k wrong own)
       (pick (both (eqb (the specifier s) 4) (under 16 s)) (some (refuse 0x20))
       (pick (eqb (the specifier s) 4) (some (aborted (at 12 15 s) (at 9 10 s) (at 11 11 s)))
       x))
   unfolding in_order abort_in answer_of
-  abort_lines k ek wrong own p = rw ek (guarded s (eqb (the specifier s) 4) (under 16 s) _ _ (pick wrong (Refused 0x23) own) p)
+  abort_lines k ek wrong own p = rw ek (guarded s (eqb (the specifier s) 4) (under 16 s) _ _ (pick wrong (Refused WrongReply) own) p)
 
   -- rules 1 to 4, and the kind's own behind them
   module _ (i b : ℕ) (f : Headers → Verdict) (kind : List Rule) where

@@ -108,14 +108,11 @@ verdict_of o w l =
 
 -- what is due after a verdict, where d was
 unfoldable pub due_after : Due → Verdict → Due
-due_after d (verdict.Refused number) = nothing
-due_after d (verdict.Emergency message) = nothing
-due_after d (verdict.Aborted code index sub) = nothing
-due_after d (verdict.Done from p) = nothing
 due_after d verdict.SegmentsFollow = segment_request
 due_after d (verdict.Segment from len sum last) = pick last nothing segment_request
 due_after d (verdict.Fragment from len sum last) = pick last nothing later_fragment
 due_after d verdict.ReplyDue = d
+due_after d other = nothing
 
 abbrev pub heard : Order → Standing → Lends → Standing
 heard o w l = record {

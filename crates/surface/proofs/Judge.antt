@@ -12,6 +12,7 @@ use Rattle.wire.specs.declared.refusal.Refusal.{Refusal}
 use Rattle.wire.specs.declared.refusal.Refusal.TheVariants.{Undecodable}
 use Rattle.wire.specs.Words.{pick, either, first_of, map_ok}
 use Rattle.wire.proofs.Cases.{by, either_true, either_false}
+use Rattle.wire.specs.declared.refusal.Refusal.TheVariants.{Undecodable}
 use Rattle.mailbox.specs.Fields.{the, mailbox_type, service, operation}
 use Rattle.mailbox.specs.Numbers as names
 use Rattle.mailbox.specs.Headers.{sdo_info_of}
@@ -69,7 +70,7 @@ segment_told kind earlier n s = segment_cases (Told kind s) s earlier n refl ref
 
 -- a list's reply: operation 2 is a fragment, which begins the list; another leaves it as it was
 module _ (kind : ℕ) (begun : Bool) (earlier n : ℕ) (s : List ℕ) where
-  refused : Told kind s (Refused 0x20)
+  refused : Told kind s (Refused Undecodable)
   unfolding told_of answer_of besides
   refused = refl
 

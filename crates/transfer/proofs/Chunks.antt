@@ -10,6 +10,7 @@ use lib.Dec.{eqb}
 use lib.ListN.{length}
 use Rattle.wire.specs.Words.{pick, both}
 use Rattle.wire.proofs.Cases.{by}
+use Rattle.wire.specs.declared.refusal.Refusal.TheVariants.{BudgetSpent}
 use Rattle.judge.specs.Answers.{answer_of}
 use Rattle.judge.specs.Download.{judge_download}
 use Rattle.judge.specs.Upload.{judge_upload}
@@ -88,7 +89,7 @@ unfolding budgeted
 not_spent false v e = (refl, refl)
 not_spent true v e = go (goes_on v) refl e
   where
-    go : (b : Bool) → goes_on v ≡ b → goes_on (pick b (Refused 0x27) v) ≡ true → (true ≡ false) × (pick b (Refused 0x27) v ≡ v)
+    go : (b : Bool) → goes_on v ≡ b → goes_on (pick b (Refused BudgetSpent) v) ≡ true → (true ≡ false) × (pick b (Refused BudgetSpent) v ≡ v)
     go true h k = absurd (false≢true k)
     go false h k = absurd (false≢true (sym h ∙ k))
 
@@ -96,6 +97,6 @@ pub done_unsettled : (spent : Bool) (v : Verdict) → (answer_of (budgeted spent
 unfolding budgeted answer_of
 done_unsettled spent v = go (both spent (goes_on v))
   where
-    go : (b : Bool) → (answer_of (pick b (Refused 0x27) v)).number ≡ 0x00 → pick b (Refused 0x27) v ≡ v
+    go : (b : Bool) → (answer_of (pick b (Refused BudgetSpent) v)).number ≡ 0x00 → pick b (Refused BudgetSpent) v ≡ v
     go true e = absurd (omega arith)
     go false e = refl

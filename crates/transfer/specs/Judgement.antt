@@ -3,12 +3,13 @@ use Rattle.std.specs.Prelude.{ℕ, ◌-◌, Bool, true, false, not, List, [], �
 use Rattle.std.specs.Prelude as rust
 use Rattle.std.proofs.Math.Option.{Option, none, some}
 use Rattle.wire.specs.Words.{pick, both}
+use Rattle.wire.specs.declared.refusal.Refusal.TheVariants.{BudgetSpent}
 use Rattle.judge.specs.Download.{judge_download}
 use Rattle.judge.specs.Upload.{judge_upload}
 use Rattle.judge.specs.Segment.{judge_segment}
 use Rattle.judge.specs.Information.{judge_list}
 use Rattle.judge.specs.declared.Verdict.{Verdict}
-use Rattle.judge.specs.declared.Verdict.TheVariants.{Refused, Emergency, Aborted, Done, SegmentsFollow, Segment, Fragment, ReplyDue}
+use Rattle.judge.specs.declared.Verdict.TheVariants.{Refused, SegmentsFollow, Segment, Fragment, ReplyDue}
 use Rattle.transfer.specs.Stage.{segment_request_due, later_fragment_due}
 use Rattle.transfer.specs.declared.Transfer.{Transfer}
 use Rattle.transfer.specs.declared.due.Reply.{Reply}
@@ -23,18 +24,15 @@ judge_reply (reply.Fragment begun) sum n s = judge_list begun sum n s
 
 -- "the answer would be 01 or 02"
 abbrev pub goes_on : Verdict → Bool
-goes_on (Refused number) = false
-goes_on (Emergency message) = false
-goes_on (Aborted sub index code) = false
-goes_on (Done from p) = false
 goes_on SegmentsFollow = true
 goes_on (Segment from len sum last) = not last
 goes_on (Fragment from len sum last) = not last
 goes_on ReplyDue = true
+goes_on other = false
 
 -- "When the count reaches the budget and the answer would be 01 or 02, it is 27 and the chunk is not stored."
 unfoldable pub budgeted : Bool → Verdict → Verdict
-budgeted spent v = pick (both spent (goes_on v)) (Refused 0x27) v
+budgeted spent v = pick (both spent (goes_on v)) (Refused BudgetSpent) v
 
 -- the count reaches the budget where at most one reply is left
 unfoldable pub judged_as : Transfer → Reply → ℕ → List ℕ → Verdict
@@ -54,14 +52,11 @@ unless_last last t = pick last none (some t)
 -- the transfer afterwards, if it is not over. "Otherwise segments follow"; "Incomplete set: reply due; clear: done"; "Operation
 -- other than 2: reply due, nothing stored."
 unfoldable pub next_of : Transfer → Verdict → Option Transfer
-next_of t (Refused number) = none
-next_of t (Emergency message) = none
-next_of t (Aborted sub index code) = none
-next_of t (Done from p) = none
 next_of t SegmentsFollow = some (advanced_to t segment_request_due t.sum)
 next_of t (Segment from len sum last) = unless_last last (advanced_to t segment_request_due sum)
 next_of t (Fragment from len sum last) = unless_last last (advanced_to t later_fragment_due sum)
 next_of t ReplyDue = some (advanced_to t t.stage t.sum)
+next_of t other = none
 
 -- as the code gives it back
 abbrev pub next_with : Option Transfer → rust.Option Transfer

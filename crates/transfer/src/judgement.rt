@@ -6,6 +6,7 @@ use crate::Transfer;
 use crate::due::Reply;
 use crate::stage::{LATER_FRAGMENT, SEGMENT_REQUEST};
 use judge::Verdict;
+use wire::refusal::Refusal;
 
 impl Reply {
     // sum: of the earlier chunks; n: the data buffer's length.
@@ -26,12 +27,9 @@ fn goes_on(verdict: Verdict) -> bool
     ensures { result ≡ goes_on verdict }
 {
     match verdict {
-        Verdict::Refused(_)
-        | Verdict::Emergency(_)
-        | Verdict::Aborted { .. }
-        | Verdict::Done { .. } => false,
         Verdict::SegmentsFollow | Verdict::ReplyDue => true,
         Verdict::Segment { last, .. } | Verdict::Fragment { last, .. } => !last,
+        _ => false,
     }
 }
 
@@ -40,7 +38,7 @@ fn settle(spent: bool, verdict: Verdict) -> Verdict
     ensures { result ≡ budgeted spent verdict }
 {
     if spent && goes_on(verdict) {
-        return Verdict::Refused(0x27);
+        return Verdict::Refused(Refusal::BudgetSpent);
     }
     verdict
 }
@@ -71,10 +69,6 @@ impl Transfer {
         ensures { result ≡ next_with (next_of self verdict) }
     {
         match verdict {
-            Verdict::Refused(_)
-            | Verdict::Emergency(_)
-            | Verdict::Aborted { .. }
-            | Verdict::Done { .. } => None,
             Verdict::SegmentsFollow => Some(self.advanced(SEGMENT_REQUEST, self.sum)),
             Verdict::Segment { sum, last, .. } => (!last).then_some(self.advanced(
                 SEGMENT_REQUEST,
@@ -85,6 +79,7 @@ impl Transfer {
                 sum,
             )),
             Verdict::ReplyDue => Some(self.advanced(self.stage, self.sum)),
+            _ => None,
         }
     }
 }

@@ -8,7 +8,7 @@ use Rattle.judge.proofs.answer_of.Goals as goal
 pub returns-in-Refused : goal.returns-in-Refused
 unfolding answer_of
 returns-in-Refused c =
-    rw c.in-Refused.is c.plain.ensures
+    rw (c.in-Refused.is, ← c.number.ensures) c.plain.ensures
 
 pub returns-in-Emergency : goal.returns-in-Emergency
 unfolding answer_of

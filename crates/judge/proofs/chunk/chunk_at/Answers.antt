@@ -1,4 +1,4 @@
--- `chunk_at` meets its contract: its two tests of room are the one of the definition, with no sum that could wrap.
+-- `chunk_at` meets its contract: a sum that no u32 holds is above every n.
 use Prim.Native.Nat.{◌+◌}
 use borrow.Author.Tests.{le-ltb, lt-ltb}
 use native.Mathlib.Omega.{arith}
@@ -10,20 +10,18 @@ unfolding chunk_at
 returns-then-lacks c =
     simp (← c.lacks.ensures, c.if-lacks.true)
 
-pub returns-then-n-earlier : goal.returns-then-n-earlier
+pub returns-in_err-sum : goal.returns-in_err-sum
 unfolding chunk_at
-returns-then-n-earlier c =
+returns-in_err-sum c =
     let a = c.args in
-    simp (← c.lacks.ensures, c.if-lacks.false, lt-ltb a.n (a.earlier + a.len) (omega arith))
+    simp (← c.lacks.ensures, c.if-lacks.false, c.from_residual.ensures, lt-ltb a.n (a.earlier + a.len) (omega (arith, c.in_err-sum.ensures)))
 
-pub returns-then-n-earlier-2 : goal.returns-then-n-earlier-2
+pub returns-then-n-sum : goal.returns-then-n-sum
 unfolding chunk_at
-returns-then-n-earlier-2 c =
-    let a = c.args in
-    simp (← c.lacks.ensures, c.if-lacks.false, lt-ltb a.n (a.earlier + a.len) (omega arith))
+returns-then-n-sum c =
+    simp (← c.lacks.ensures, c.if-lacks.false, ← c.in_ok-sum.ensures.1, lt-ltb _ _ c.if-n-sum.true)
 
 pub returns : goal.returns
 unfolding chunk_at
 returns c =
-    let a = c.args in
-    simp (← c.lacks.ensures, c.if-lacks.false, le-ltb a.n (a.earlier + a.len) (omega arith))
+    simp (← c.lacks.ensures, c.if-lacks.false, ← c.in_ok-sum.ensures.1, le-ltb _ _ c.if-n-sum.false)

@@ -11,9 +11,9 @@ returns-then-h-lt8 c =
 pub returns-in_default : goal.returns-in_default
 unfolding fragment_of
 returns-in_default c =
-    simp (le-ltb _ _ c.if-h-lt8.false, ← c.less-len.ensures, ← c.chunk_at.ensures, c.in_default.is)
+    simp (le-ltb _ _ c.if-h-lt8.false, ← c.chunk_at.ensures, c.in_default.is)
 
 pub returns : goal.returns
 unfolding fragment_of
 returns c =
-    simp (le-ltb _ _ c.if-h-lt8.false, ← c.less-len.ensures, ← c.chunk_at.ensures, c.in-There.is)
+    simp (le-ltb _ _ c.if-h-lt8.false, ← c.chunk_at.ensures, c.in-Some.is)

@@ -6,9 +6,9 @@ use Rattle.judge.proofs.segment.chunk_length.Goals as goal
 pub returns-then-len-eq7 : goal.returns-then-len-eq7
 unfolding chunk_length
 returns-then-len-eq7 c =
-    simp (← c.less-len.ensures, eq-eqb _ _ c.if-len-eq7.true, ← c.less.ensures)
+    simp (← c.saturating_sub-len.ensures, eq-eqb _ _ c.if-len-eq7.true, ← c.saturating_sub.ensures)
 
 pub returns : goal.returns
 unfolding chunk_length
 returns c =
-    simp (← c.less-len.ensures, ne_eqb _ _ c.if-len-eq7.false)
+    simp (← c.saturating_sub-len.ensures, ne_eqb _ _ c.if-len-eq7.false)

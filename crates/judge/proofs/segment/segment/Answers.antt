@@ -16,4 +16,4 @@ returns-in_default c =
 pub returns : goal.returns
 unfolding segment_of
 returns c =
-    simp (le-ltb _ _ c.if-h-lt3.false, ← c.chunk_length-len.ensures, ← c.chunk_at.ensures, c.in-There.is)
+    simp (le-ltb _ _ c.if-h-lt3.false, ← c.chunk_length-len.ensures, ← c.chunk_at.ensures, c.in-Some.is)

@@ -1,44 +1,34 @@
--- `store` meets its contract: an arm with a chunk lays it, and no chunk laid leaves the buffer as it was.
-use Rattle.judge.specs.Storage.{stored}
+-- `store` meets its contract: the chunk of three verdicts is laid, and no chunk laid leaves the buffer as it was.
+use mathlib.Core.Bool.{Bool}
+use mathlib.Core.List.{List, []}
+use mathlib.Core.Logic.{inl, inr}
+use mathlib.Core.Path.{◌≡◌, refl}
+use Prim.Native.Nat.{ℕ}
+use Rattle.judge.specs.Storage.{taken, stored}
+use Rattle.judge.specs.declared.Verdict.{Verdict}
+use Rattle.judge.specs.declared.Verdict.TheVariants.{Done, Segment, Fragment}
 use Rattle.judge.proofs.Laid.{laid_nil}
 use Rattle.judge.proofs.storage.store.Goals as goal
 
-pub returns-in-Refused : goal.returns-in-Refused
-unfolding stored
-returns-in-Refused c =
-    rw c.in-Refused.is (laid_nil _ c.args.at)
+nothing_taken : (v : Verdict) (s : List ℕ) → ((from p : ℕ) → v ≡ Done from p → ⊥)
+    → ((from len sum : ℕ) (last : Bool) → v ≡ Segment from len sum last → ⊥)
+    → ((from len sum : ℕ) (last : Bool) → v ≡ Fragment from len sum last → ⊥) → taken v s ≡ []
+nothing_taken (Done from p) s d g f = absurd (d from p refl)
+nothing_taken (Segment from len sum last) s d g f = absurd (g from len sum last refl)
+nothing_taken (Fragment from len sum last) s d g f = absurd (f from len sum last refl)
+nothing_taken other s d g f = refl
 
-pub returns-in-Emergency : goal.returns-in-Emergency
+pub returns-in_default : goal.returns-in_default
 unfolding stored
-returns-in-Emergency c =
-    rw c.in-Emergency.is (laid_nil _ c.args.at)
-
-pub returns-in-Aborted : goal.returns-in-Aborted
-unfolding stored
-returns-in-Aborted c =
-    rw c.in-Aborted.is (laid_nil _ c.args.at)
+returns-in_default c =
+    let d = c.in_default in
+    rw (nothing_taken c.args.verdict c.args.s.now d.not-Done d.not-Segment d.not-Fragment) (laid_nil _ c.args.at)
 
 pub returns-in-Done : goal.returns-in-Done
 unfolding stored
 returns-in-Done c =
-    rw c.in-Done.is c.store_chunk.ensures
-
-pub returns-in-SegmentsFollow : goal.returns-in-SegmentsFollow
-unfolding stored
-returns-in-SegmentsFollow c =
-    rw c.in-SegmentsFollow.is (laid_nil _ c.args.at)
-
-pub returns-in-Segment : goal.returns-in-Segment
-unfolding stored
-returns-in-Segment c =
-    rw c.in-Segment.is c.store_chunk-in-Segment.ensures
-
-pub returns-in-Fragment : goal.returns-in-Fragment
-unfolding stored
-returns-in-Fragment c =
-    rw c.in-Fragment.is c.store_chunk-in-Fragment.ensures
-
-pub returns-in-ReplyDue : goal.returns-in-ReplyDue
-unfolding stored
-returns-in-ReplyDue c =
-    rw c.in-ReplyDue.is (laid_nil _ c.args.at)
+    elim c.in-Done.is [
+      | inl e ↦ rw e c.store_chunk.ensures
+      | inr (inl h) ↦ rw h.2 c.store_chunk.ensures
+      | inr (inr h) ↦ rw h.2 c.store_chunk.ensures
+    ]

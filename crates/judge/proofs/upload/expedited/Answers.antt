@@ -5,9 +5,9 @@ use Rattle.judge.proofs.upload.expedited.Goals as goal
 pub returns-then-lacks : goal.returns-then-lacks
 unfolding expedited_of
 returns-then-lacks c =
-    simp (← c.less-len.ensures, ← c.lacks.ensures, c.if-lacks.true)
+    simp (← c.saturating_sub-len.ensures, ← c.lacks.ensures, c.if-lacks.true)
 
 pub returns : goal.returns
 unfolding expedited_of
 returns c =
-    simp (← c.less-len.ensures, ← c.lacks.ensures, c.if-lacks.false)
+    simp (← c.saturating_sub-len.ensures, ← c.lacks.ensures, c.if-lacks.false)

@@ -22,11 +22,11 @@ unfolding normal_of
 returns-then-complete_size-d c =
     let s = c.args.s.now in
     let h : Bytes s = λ i. (c.shared_slice_known-1.given i).fits in
-    simp (le-ltb _ _ c.if-s-lt-NORMAL_LEAST.false, complete_size_is s h, ← c.long_at-complete_size.ensures, le-ltb _ _ c.if-n-complete_size.false, ← c.less-d.ensures, le-leb _ _ c.if-complete_size-d.true, ← c.whole.ensures)
+    simp (le-ltb _ _ c.if-s-lt-NORMAL_LEAST.false, complete_size_is s h, ← c.long_at-complete_size.ensures, le-ltb _ _ c.if-n-complete_size.false, ← c.saturating_sub-d.ensures, le-leb _ _ c.if-complete_size-d.true, ← c.whole.ensures)
 
 pub returns : goal.returns
 unfolding normal_of
 returns c =
     let s = c.args.s.now in
     let h : Bytes s = λ i. (c.shared_slice_known-1.given i).fits in
-    simp (le-ltb _ _ c.if-s-lt-NORMAL_LEAST.false, complete_size_is s h, ← c.long_at-complete_size.ensures, le-ltb _ _ c.if-n-complete_size.false, ← c.less-d.ensures, lt-leb _ _ c.if-complete_size-d.false)
+    simp (le-ltb _ _ c.if-s-lt-NORMAL_LEAST.false, complete_size_is s h, ← c.long_at-complete_size.ensures, le-ltb _ _ c.if-n-complete_size.false, ← c.saturating_sub-d.ensures, lt-leb _ _ c.if-complete_size-d.false)
