@@ -10,8 +10,8 @@ use reads::quantities::{ObjectDescriptionListQueryCounts, read_quantities};
 use reads::typed::read;
 use wire::refusal::Refusal;
 
-// A number that was read, beside 00; where it was refused, 0 beside the refusal's number. Two records, since the signatures of `coe_read_u8`
-// and `coe_read_i8` are C's, and those take no struct with a type parameter.
+// A number that was read, beside 00; where it was refused, 0 beside the refusal's number.
+// Two records: `coe_read_u8` and `coe_read_i8` are C's, and the signature of an exported function takes no struct with a type parameter.
 #[repr(C)]
 #[derive(Clone, Copy)]
 pub struct Unsigned {
@@ -73,6 +73,7 @@ impl From<Result<i32, Refusal>> for Signed {
     }
 }
 
+// Six functions around one, since C calls each by its name.
 pub fn coe_read_u8(payload: &[u8]) -> Unsigned
     ensures { result ≡ unsigned_of (unsigned_read 1 payload.now) }
 {

@@ -53,3 +53,5 @@ none_comes r after (Ok found) is moved e = cc
 none_comes r after (Err refusal) is moved e =
     let none = given r after (Err refusal) is moved in
     (none, rw (moved_behind r after (Err refusal) is moved) none)
+
+pub ruleset comes = (one_comes, none_comes)

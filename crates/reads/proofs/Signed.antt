@@ -1,5 +1,5 @@
--- Laws of two's complement over the number of bytes: bits and numbers are one to one, the range, and that the number is the
--- bits, or the bits less 256 ^ n. Assumes nothing.
+-- Laws of two's complement over the number of bytes: a number is read from its bits, the range, and that the number is the bits, or the
+-- bits less 256 ^ n. That bits are those of the number that they read as is in specs/Integers. Assumes nothing.
 use mathlib.Core.Path.{◌≡◌, ap, ◌∙◌}
 use Prim.Native.Nat.{ℕ, suc, ◌-◌, ◌*◌, ◌^◌, ◌<◌, ◌≤◌}
 use native.Mathlib.Nat.{one-le-pow, pow-suc}

@@ -1,5 +1,5 @@
 // Reads of a finished payload: typed values, the object list item by item and whole, and the five quantities. Each takes any bytes and
-// any position, and refuses what cannot be read with the number of what is undecodable.
+// any position, and refuses as undecodable what cannot be read.
 #![tactic(auto)]
 
 pub mod list;

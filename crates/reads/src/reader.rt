@@ -38,6 +38,7 @@ impl Iterator for ListReader<'_> {
 
     ghost remaining = { item_count coming };
 
+    #[tactic(auto, using(crate::proofs::Coming::comes))]
     fn next(&mut self) -> Option<u16> {
         let item = self.read().ok()?;
         Some(item.index)

@@ -23,6 +23,7 @@ pub fn read_list(payload: &[u8], items: &mut [u16]) -> Result<usize, Refusal>
         return Err(Refusal::Undecodable);
     }
     for (place, index) in ListReader::new(payload).enumerate() {
+        // Not by `items.iter_mut().zip(..)`: behind an adapter, what std says of `iter_mut` leaves open what the items end as.
         put(items, place, index);
     }
     Ok(payload.len() / 2)

@@ -36,12 +36,14 @@ pub fn numbers(payload: &[u8]) -> Typed
     }
 }
 
+#[tactic(auto, using(crate::proofs::Payloads::item_in_lem))]
 pub fn item(payload: &[u8], at: usize) -> Item
     ensures { result ≡ item_in payload.now at }
 {
     reading::coe_list_item(payload, at)
 }
 
+#[tactic(auto, using(crate::proofs::Payloads::quantities_in_lem))]
 pub fn quantities(payload: &[u8]) -> Quantities
     ensures { result ≡ quantities_in payload.now }
 {
