@@ -1,10 +1,16 @@
 // The writers: the number, the first sixteen bytes behind the buffer's start, its last byte and the byte behind it.
 use crate::{fill, head};
 use mailbox::sub_index::SubIndex;
-use services::{Request, Wrote};
+use services::Request;
 use std::io;
+use wire::refusal::Refusal;
 
-fn written(rt: &impl Print, wrote: Wrote, size: usize, buffer: &[u8]) -> io::Result<()> {
+fn written(
+    rt: &impl Print,
+    wrote: Result<(), Refusal>,
+    size: usize,
+    buffer: &[u8],
+) -> io::Result<()> {
     show::number(rt, services::number_of(wrote) as u64, 2)?;
     show::words(rt, b" ")?;
     show::first(rt, buffer, 16)?;
@@ -16,7 +22,7 @@ fn written(rt: &impl Print, wrote: Wrote, size: usize, buffer: &[u8]) -> io::Res
     show::next(rt, wire::byte(buffer, size) as u64, 2)
 }
 
-fn wrote(case: &[u8], data: &[u8], frame: &mut [u8]) -> Wrote {
+fn wrote(case: &[u8], data: &[u8], frame: &mut [u8]) -> Result<(), Refusal> {
     match wire::byte(case, 0) {
         0x01 => services::checked::upload_frame(
             wire::byte(case, 1),

@@ -2,11 +2,11 @@
 -- lent and exported, one of linked/specs/One, or, of its callers, one of surface/specs/One, or, of the order program, one of
 -- order_run/specs/One or order_io/specs/Shown. Each leaves one answer and one content of what is lent. `tools/statements --shapes` names
 -- the shape of every public function and fails at one that has none of them. Assumes nothing.
-use Rattle.std.specs.Prelude.{◌≡◌, Bool, List, ℕ}
+use Rattle.std.specs.Prelude.{◌≡◌, Bool, List, ℕ, Result}
 use Rattle.wire.specs.Words.{One}
+use Rattle.wire.specs.declared.refusal.Refusal.{Refusal}
 use Rattle.services.specs.Written.{Writes}
 use Rattle.services.specs.declared.Request.{Request}
-use Rattle.services.specs.declared.Wrote.{Wrote}
 use Rattle.transfer.specs.declared.Order.{Order}
 use Rattle.desk.specs.Calls as desk
 use Rattle.desk.specs.Change.{Changes, ChangesLent}
@@ -24,7 +24,7 @@ pub record Unique : Type 1 where
   -- `(r ≡ x) × (what is lent ≡ y)`, or the same of the answer's two fields
   pub equalities : {A B : Type 0} (x : A) (y : B) → One (λ (r : A × B). (r.0 ≡ x) × (r.1 ≡ y))
   pub writers : (fine : Bool) (counter : ℕ) (request : Request) (before : List ℕ)
-      → One (λ (r : Wrote × List ℕ). Writes fine counter request before r.0 r.1)
+      → One (λ (r : Result (Unit {0}) Refusal × List ℕ). Writes fine counter request before r.0 r.1)
   pub fresh : (counter : ℕ) → One (desk.Fresh counter)
   pub enter_leave : (d : Desk) (k : Called) → One (desk.Gives d k)
   pub send_receive : (d : Desk) (k : Called) (before : List ℕ)

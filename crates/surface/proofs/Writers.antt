@@ -9,10 +9,12 @@ use borrow.Author.Tests.{leb-true}
 use lib.Dec.{leb, eqb, lit<}
 use lib.ListN.{length}
 use lib.Seq.{take_all}
+use Rattle.std.specs.Prelude.{Err}
 use Rattle.wire.specs.Words.{pick, both, within, first_of}
 use Rattle.wire.specs.Bytes.{Bytes, value, long_at}
 use Rattle.wire.specs.Fields.{Field, packed}
 use Rattle.wire.specs.Front.{in_front}
+use Rattle.wire.specs.declared.refusal.Refusal.TheVariants.{BadOrder}
 use Rattle.wire.proofs.Bytes.{bytes_are}
 use Rattle.wire.proofs.Cases.{by}
 use Rattle.mailbox.specs.Fields.{Name}
@@ -23,7 +25,6 @@ use Rattle.services.specs.Requests.{packed_of}
 use Rattle.services.specs.Written.{fits, wrote_of, frame_with, is_flag, access_of, writable, checked_answer, checked_frame, number_of, Frames}
 use Rattle.services.specs.declared.Request.{Request}
 use Rattle.services.specs.declared.Request.TheVariants.{Upload, Download, Segment, Information}
-use Rattle.services.specs.declared.Wrote.TheVariants.{Refused}
 use Rattle.services.proofs.Sizes.{packed_fits}
 use Rattle.promises.specs.Fields.{Packs, gaps, upload_fields, download_fields, segment_fields}
 use Rattle.promises.proofs.Fields.{upload_packs, download_packs, segment_packs, information_packs}
@@ -71,7 +72,7 @@ module _ {tests : List Test} {bytes : ℕ} {fields : List (Name × ℕ)} {skippe
 
   module _ (counter : ℕ) (r : Request) where
     go : (a b c : Bool) → first_of {A = ℕ} tests ≡ first_of (tested a b c (fits (length before)))
-        → number ≡ number_of (pick (both a (both b c)) (wrote_of (length before)) (Refused 0x15))
+        → number ≡ number_of (pick (both a (both b c)) (wrote_of (length before)) (Err BadOrder))
         → after ≡ pick (both a (both b c)) (frame_with (packed_of counter r) before) before
         → (a ≡ true → b ≡ true → c ≡ true → Packs bytes fields skipped (packed_of counter r))
         → Writes tests bytes fields skipped before number after

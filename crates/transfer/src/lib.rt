@@ -8,7 +8,6 @@ ghost use Rattle.transfer.specs.Coe.{begins_with, sends_if_due, receives_if_due,
 
 use due::Due;
 use judge::Answer;
-use services::Wrote;
 use wire::refusal::Refusal;
 
 pub mod due;
@@ -56,15 +55,14 @@ impl Order {
 
 impl Transfer {
     // Writes the request that is due.
+    #[tactic(auto, unfolding(services::specs::Written::wrote_of, services::specs::Written::frame_with, crate::specs::Coe::sends_if_due, crate::specs::Coe::sends_with, crate::specs::Due::request_due))]
     pub fn send(self, counter: u8, frame: &mut [u8]) -> Result<Transfer, Refusal>
         ensures { (ruling_of result ≡ sending_of (sends_if_due self counter frame.old)) × (frame.new ≡ frame_of frame.old (sends_if_due self counter frame.old)) }
     {
         let Due::Request(request) = self.due() else {
             return Err(Refusal::OtherDue);
         };
-        let Wrote::Frame = services::write_request(counter, request, frame) else {
-            return Err(Refusal::BufferLength);
-        };
+        services::write_request(counter, request, frame)?;
         Ok(self.awaiting())
     }
 

@@ -1,7 +1,0 @@
--- `services::checked::download_frame` meets its contract: the number of `numbered::download_frame` says which answer it is.
-use Rattle.services.proofs.Writers.{frames_writes}
-use Rattle.services.proofs.checked.download_frame.Goals as goal
-
-pub returns : goal.returns
-returns c =
-    frames_writes c.wrote_by.ensures c.download_frame.ensures
