@@ -6,7 +6,7 @@ use crate::Header;
 use crate::numbers::CoeService;
 use wire::refusal::Refusal;
 
-#[derive(Clone, Copy)]
+#[derive(Clone, Copy, Debug, PartialEq, Eq)]
 pub struct CoeHeader {
     pub service: CoeService,
 }

@@ -3,11 +3,10 @@ ghost use Rattle.std.specs.Prelude.{◌≡◌};
 ghost use Rattle.mailbox.specs.Headers.{sdo_info_bytes, read_sdo_info};
 
 use crate::Header;
-use crate::flag::bit_of;
 use crate::numbers::SdoInfoOpCode;
 use wire::refusal::Refusal;
 
-#[derive(Clone, Copy)]
+#[derive(Clone, Copy, Debug, PartialEq, Eq)]
 pub struct SdoInfoHeader {
     pub op_code: SdoInfoOpCode,
     pub incomplete: bool,
@@ -21,7 +20,7 @@ impl SdoInfoHeader {
     {
         let op_code = self.op_code;
         [
-            u8::from(op_code) % 128 + 128 * bit_of(self.incomplete),
+            u8::from(op_code) % 128 + 128 * u8::from(self.incomplete),
             0,
             (self.fragments_left % 256) as u8,
             (self.fragments_left / 256 % 256) as u8,

@@ -3,11 +3,10 @@ ghost use Rattle.std.specs.Prelude.{◌≡◌};
 ghost use Rattle.mailbox.specs.Headers.{sdo_header_bytes, read_sdo_header};
 
 use crate::Header;
-use crate::flag::bit_of;
 use crate::numbers::CoeCommand;
 use wire::refusal::Refusal;
 
-#[derive(Clone, Copy)]
+#[derive(Clone, Copy, Debug, PartialEq, Eq)]
 pub struct SdoHeader {
     pub size_indicator: bool,
     pub expedited_transfer: bool,
@@ -25,10 +24,10 @@ impl SdoHeader {
     {
         let command = self.command;
         [
-            bit_of(self.size_indicator)
-                + 2 * bit_of(self.expedited_transfer)
+            u8::from(self.size_indicator)
+                + 2 * u8::from(self.expedited_transfer)
                 + 4 * (self.size % 4)
-                + 16 * bit_of(self.complete_access)
+                + 16 * u8::from(self.complete_access)
                 + 32 * (u8::from(command) % 8),
             (self.index % 256) as u8,
             (self.index / 256 % 256) as u8,

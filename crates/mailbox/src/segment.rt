@@ -3,11 +3,10 @@ ghost use Rattle.std.specs.Prelude.{◌≡◌};
 ghost use Rattle.mailbox.specs.Headers.{segmented_bytes, read_segmented};
 
 use crate::Header;
-use crate::flag::bit_of;
 use crate::numbers::CoeCommand;
 use wire::refusal::Refusal;
 
-#[derive(Clone, Copy)]
+#[derive(Clone, Copy, Debug, PartialEq, Eq)]
 pub struct SdoHeaderSegmented {
     pub is_last_segment: bool,
     pub segment_data_size: u8,
@@ -22,9 +21,9 @@ impl SdoHeaderSegmented {
     {
         let command = self.command;
         [
-            bit_of(self.is_last_segment)
+            u8::from(self.is_last_segment)
                 + 2 * (self.segment_data_size % 8)
-                + 16 * bit_of(self.toggle)
+                + 16 * u8::from(self.toggle)
                 + 32 * (u8::from(command) % 8),
         ]
     }

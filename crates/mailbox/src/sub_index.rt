@@ -3,7 +3,7 @@ ghost use Rattle.std.specs.Prelude.{◌≡◌};
 ghost use Rattle.mailbox.specs.Headers.{is_complete, sub_index_of};
 
 // Which part of an object is meant: all of it, or one sub-index.
-#[derive(Clone, Copy)]
+#[derive(Clone, Copy, Debug, PartialEq, Eq)]
 pub enum SubIndex {
     Complete,
     Index(u8),
@@ -13,10 +13,7 @@ impl SubIndex {
     pub fn complete_access(self) -> bool
         ensures { result ≡ is_complete self }
     {
-        match self {
-            SubIndex::Complete => true,
-            SubIndex::Index(_) => false,
-        }
+        matches!(self, SubIndex::Complete)
     }
 
     pub fn sub_index(self) -> u8
