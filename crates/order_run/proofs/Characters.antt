@@ -1,14 +1,15 @@
 -- Laws of the run by characters, one for each way that a character goes. Assumes nothing.
+use Rattle.std.specs.Prelude.{Option, Some, None, is_none}
 use Prim.Native.Nat.{ℕ, zero, suc, ◌+◌, ◌*◌, ◌<◌, ◌≤◌}
 use mathlib.Core.Path.{◌≡◌, refl, sym, ap, ◌∙◌}
 use mathlib.Core.Bool.{true, false, true≢false}
 use mathlib.Core.List.{List, [], ◌∷◌, append-nil}
 use native.Mathlib.Omega.{arith}
 use native.Mathlib.Nat.{add-zero}
-use lib.Dec.{eqb, ltb}
+use lib.Dec.{ltb}
 use lib.ListN.{length, get_or, set, take, drop, length-take}
 use lib.Seq.{paste, paste-zero, drop-cons, get_or-take}
-use borrow.Author.Tests.{ne_eqb, eqb-true, eqb-false, leb-false, lt-leb, ltb-false, ltb-true}
+use borrow.Author.Tests.{ne_eqb, leb-false, lt-leb, ltb-false, ltb-true}
 use Rattle.wire.proofs.Cases.{by}
 use Rattle.line.specs.Desk.{first_counter}
 use Rattle.desk.specs.Record.{empty_at}
@@ -26,18 +27,28 @@ use Rattle.order_run.specs.declared.turns.Phase.{Phase}
 use Rattle.order_run.specs.declared.turns.Phase.TheVariants.{Entry}
 
 module _ (s : St) where
-  pub end_whole : eqb s.part.half 16 ≡ true
+  pub end_whole : s.part.half ≡ None
       → (after_frame s.phase s.desk (take s.part.count s.frame) s.kept ≡ end_said s)
       × (kept_frame s.phase s.desk (take s.part.count s.frame) s.kept ≡ end_kept s)
   unfolding end_said end_kept
   end_whole e = (sym (rw e), sym (rw e))
 
-  pub end_odd : eqb s.part.half 16 ≡ false → (failed s.desk ≡ end_said s) × (s.kept ≡ end_kept s)
+  pub end_odd : {h : ℕ} → s.part.half ≡ Some h → (failed s.desk ≡ end_said s) × (s.kept ≡ end_kept s)
   unfolding end_said end_kept
   end_odd e = (sym (rw e), sym (rw e))
 
+pub none≢some : {X : Type 0} {h : ℕ} → ◌≡◌ {A = Option ℕ} None (Some h) → X
+none≢some e = absurd (true≢false (ap is_none e))
+
+some_is : {g h : ℕ} → ◌≡◌ {A = Option ℕ} (Some g) (Some h) → g ≡ h
+some_is {g} e = ap (unwrap_or_zero) e
+  where
+    unwrap_or_zero : Option ℕ → ℕ
+    unwrap_or_zero None = 0
+    unwrap_or_zero (Some h) = h
+
 pub nothing_begun : Begun nothing
-nothing_begun = record { room = omega arith; digit = omega arith; place = λ h. omega arith }
+nothing_begun = record { room = omega arith; digit = λ h e. absurd (none≢some e) }
 
 pub started : (d : Desk) (p : Part) → Fresh first_counter d → p ≡ nothing → Starts (record { desk = d; phase = Entry; part = p })
 started d p F e =
@@ -100,39 +111,45 @@ put_digit p c f =
     (λ e. ltb-false 15 (digit_of c) e)
 
 pub begun_put : (p : Part) (c : ℕ) (f : List ℕ) → Begun p → fails p c ≡ false → Begun (put_part p (digit_of c))
-begun_put p c f b e =
-    let d = put_digit p c e in
-    by (eqb p.half 16)
-    (λ h. let q : p.half ≡ 16 = eqb-true p.half 16 h in
-    let r = leb-false 1486 p.count (sym (fails_room p c d q) ∙ e) in
-    rw (← (put_first p (digit_of c) f q).0) (record { room = b.room; digit = omega arith; place = λ l. r }))
-    (λ h. let q = eqb-false p.half 16 h in
-    let l = b.place (omega (arith, b.digit, q)) in
-    rw (← (put_second p (digit_of c) f q).0) (record { room = omega arith; digit = omega arith; place = λ m. omega arith }))
+begun_put p c f b e = go p.half refl
+  where
+    d : digit_of c ≤ 15
+    d = put_digit p c e
 
-pub begun_further : (p : Part) (r : ℕ) → Begun p → p.count + r ≤ 1486 → (0 < r → p.half ≡ 16) → Begun (further p r)
+    go : (x : Option ℕ) → p.half ≡ x → Begun (put_part p (digit_of c))
+    go None q =
+        let r = leb-false 1486 p.count (sym (fails_room p c d q) ∙ e) in
+        rw (← (put_first p (digit_of c) f q).0) (record { room = b.room; digit = λ h z. (rw (some_is z) at d, r) })
+    go (Some h) q =
+        let l = (b.digit h q).1 in
+        rw (← (put_second p (digit_of c) f h q).0) (record { room = omega arith; digit = λ g z. absurd (none≢some z) })
+
+pub begun_further : (p : Part) (r : ℕ) → Begun p → p.count + r ≤ 1486 → (0 < r → p.half ≡ None) → Begun (further p r)
 begun_further p r b h e =
-    record { room = h; digit = b.digit; place = λ l. by (ltb 0 r) (λ q. absurd (omega (arith, e (ltb-true 0 r q)))) (λ q. omega (arith, ltb-false 0 r q, b.place l)) }
+    record {
+      room = h;
+      digit = λ g z.
+          ((b.digit g z).0, by (ltb 0 r) (λ q. absurd (none≢some (sym (e (ltb-true 0 r q)) ∙ z))) (λ q. omega (arith, ltb-false 0 r q, (b.digit g z).1)));
+    }
 
 -- ---- whole bytes, two digits at a time
 
 module _ (d : Desk) (ph : Phase) (k : List ℕ) (n : is_over ph ≡ false) where
   pair_step : (m a b : ℕ) (f t : List ℕ) → m < 1486 → digit_of a ≤ 15 → digit_of b ≤ 15
-      → after (st d ph (part m 16) f k) (a ∷ b ∷ t) ≡ after (st d ph (part (m + 1) 16) (set f m (byte_of a b)) k) t
+      → after (st d ph (part m None) f k) (a ∷ b ∷ t) ≡ after (st d ph (part (m + 1) None) (set f m (byte_of a b)) k) t
   pair_step m a b f t h x y =
-      let p = put_first (part m 16) (digit_of a) f refl in
-      let ne : digit_of a ≡ 16 → ⊥ = λ e. omega (arith, e) in
-      let q = put_second (part m (digit_of a)) (digit_of b) f ne in
-      after_put (st d ph (part m 16) f k) (b ∷ t) n a (no_line_end a x) (fails_room (part m 16) a x refl ∙ lt-leb 1486 m h)
+      let p = put_first (part m None) (digit_of a) f refl in
+      let q = put_second (part m (Some (digit_of a))) (digit_of b) f (digit_of a) refl in
+      after_put (st d ph (part m None) f k) (b ∷ t) n a (no_line_end a x) (fails_room (part m None) a x refl ∙ lt-leb 1486 m h)
       ∙ ap (λ (z : St). after z (b ∷ t)) (λ i. st d ph (sym p.0 i) (sym p.1 i) k)
-      ∙ after_put (st d ph (part m (digit_of a)) f k) t n b (no_line_end b y) (fails_not (part m (digit_of a)) b y ne)
+      ∙ after_put (st d ph (part m (Some (digit_of a))) f k) t n b (no_line_end b y) (fails_not (part m (Some (digit_of a))) b y refl)
       ∙ ap (λ (z : St). after z t) (λ i. st d ph (sym q.0 i) (sym q.1 i) k)
-      ∙ ap (λ (z : ℕ). after (st d ph (part (m + 1) 16) (set f m z) k) t) (sym (byte_digits a b x y))
+      ∙ ap (λ (z : ℕ). after (st d ph (part (m + 1) None) (set f m z) k) t) (sym (byte_digits a b x y))
 
   module _ (at : ℕ) (f t : List ℕ) (r : ℕ) (there : 2 * r ≤ length t) (room : at + r ≤ 1486) (long : length f ≡ 1486)
       (good : (i : ℕ) → i < 2 * r → digit_of (get_or t i 0) ≤ 15) where
     stand : ℕ → St
-    stand j = st d ph (part (at + j) 16) (paste f at (bytes_of t) j) k
+    stand j = st d ph (part (at + j) None) (paste f at (bytes_of t) j) k
 
     two_at : (j : ℕ) → j < r → drop (2 * j) t ≡ get_or t (2 * j) 0 ∷ get_or t (2 * j + 1) 0 ∷ drop (2 * suc j) t
     two_at j h =
@@ -151,28 +168,28 @@ module _ (d : Desk) (ph : Phase) (k : List ℕ) (n : is_over ph ≡ false) where
         let g : j + 1 ≡ suc j = omega arith in
         ap (after (stand j)) (two_at j h)
         ∙ pair_step (at + j) a b (paste f at (bytes_of t) j) (drop (2 * suc j) t) (omega arith) (good (2 * j) (omega arith)) (good (2 * j + 1) (omega arith))
-        ∙ ap (λ (z : List ℕ). after (st d ph (part (at + j + 1) 16) z k) (drop (2 * suc j) t)) (byte_turn f t at j (at + j) refl (omega arith) (omega arith))
+        ∙ ap (λ (z : List ℕ). after (st d ph (part (at + j + 1) None) z k) (drop (2 * suc j) t)) (byte_turn f t at j (at + j) refl (omega arith) (omega arith))
         ∙ rw (e, g)
 
-    steps : (j : ℕ) → j ≤ r → after (st d ph (part at 16) f k) t ≡ after (stand j) (drop (2 * j) t)
+    steps : (j : ℕ) → j ≤ r → after (st d ph (part at None) f k) t ≡ after (stand j) (drop (2 * j) t)
     unfolding stand
-    steps zero h = ap (λ (z : St). after z t) (λ i. st d ph (part (sym (add-zero at) i) 16) (paste-zero f at (bytes_of t) i) k)
+    steps zero h = ap (λ (z : St). after z t) (λ i. st d ph (part (sym (add-zero at) i) None) (paste-zero f at (bytes_of t) i) k)
     steps (suc j) h = steps j (omega arith) ∙ step j (omega arith)
 
-    all_steps : after (st d ph (part at 16) f k) t ≡ after (st d ph (part (at + r) 16) (paste f at (bytes_of t) r) k) (drop (2 * r) t)
+    all_steps : after (st d ph (part at None) f k) t ≡ after (st d ph (part (at + r) None) (paste f at (bytes_of t) r) k) (drop (2 * r) t)
     unfolding stand
     all_steps = steps r (omega arith)
 
-  pub after_whole : (p : Part) (f t : List ℕ) (r : ℕ) (f' : List ℕ) → length f ≡ 1486 → Whole t p.count f r f' → (0 < r → p.half ≡ 16)
+  pub after_whole : (p : Part) (f t : List ℕ) (r : ℕ) (f' : List ℕ) → length f ≡ 1486 → Whole t p.count f r f' → (0 < r → p.half ≡ None)
       → after (st d ph p f k) t ≡ after (st d ph (further p r) f' k) (drop (2 * r) t)
   after_whole p f t zero f' l w e =
       ap (λ (z : St). after z t)
       (λ i. st d ph (part (sym (add-zero p.count) i) p.half) ((paste-zero f p.count (bytes_of t) ∙ sym w.stored) i) k)
   after_whole p f t (suc r) f' l w e =
-      let h : p.half ≡ 16 = e (omega arith) in
+      let h : p.half ≡ None = e (omega arith) in
       let n : (i : ℕ) → i < 2 * suc r → digit_of (get_or t i 0) ≤ 15 =
       λ i q. rw (get_or-take (2 * suc r) t i 0 q) at (digit_at (take (2 * suc r) t) i w.digits (omega (arith, length-take (2 * suc r) t, w.there))) in
-      ap (λ (x : ℕ). after (st d ph (part p.count x) f k) t) h
+      ap (λ (x : Option ℕ). after (st d ph (part p.count x) f k) t) h
       ∙ all_steps p.count f t (suc r) w.there w.room l n
-      ∙ ap (λ (x : ℕ). after (st d ph (part (p.count + suc r) x) (paste f p.count (bytes_of t) (suc r)) k) (drop (2 * suc r) t)) (sym h)
+      ∙ ap (λ (x : Option ℕ). after (st d ph (part (p.count + suc r) x) (paste f p.count (bytes_of t) (suc r)) k) (drop (2 * suc r) t)) (sym h)
       ∙ ap (λ (x : List ℕ). after (st d ph (further p (suc r)) x k) (drop (2 * suc r) t)) (sym w.stored)

@@ -1,4 +1,5 @@
 -- Laws of the input's end, and of a piece that is cut to its room. Assumes nothing.
+use Rattle.std.specs.Prelude.{Some, None}
 use Prim.Native.Nat.{ℕ, ◌+◌, ◌-◌, ◌≤◌, min}
 use mathlib.Core.Path.{◌≡◌, refl, sym, ap, ◌∙◌}
 use mathlib.Core.Bool.{true, false, true≢false}
@@ -7,7 +8,6 @@ use native.Mathlib.Omega.{arith}
 use lib.Dec.{ltb}
 use lib.ListN.{length, length-append}
 use lib.Seq.{length-paste}
-use borrow.Author.Tests.{eq-eqb, ne_eqb}
 use Rattle.wire.specs.Store.{laid}
 use Rattle.judge.proofs.Laid.{laid_join, laid_nil}
 use Rattle.desk.specs.declared.Desk.{Desk}
@@ -33,13 +33,13 @@ feeds_within h F =
     }
 
 module _ (p : Part) where
-  pub begun_bytes : p.half ≡ 16 → begun p ≡ ltb 0 p.count
+  pub begun_bytes : p.half ≡ None → begun p ≡ ltb 0 p.count
   unfolding begun
-  begun_bytes e = rw (eq-eqb p.half 16 e)
+  begun_bytes e = rw e
 
-  pub begun_digit : (p.half ≡ 16 → ⊥) → begun p ≡ true
+  pub begun_digit : (h : ℕ) → p.half ≡ Some h → begun p ≡ true
   unfolding begun
-  begun_digit e = rw (ne_eqb p.half 16 e)
+  begun_digit h e = rw e
 
 module _ (s : St) where
   pub ended_here : begun s.part ≡ true → after s (10 ∷ []) ≡ line_ended s

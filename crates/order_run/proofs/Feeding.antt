@@ -1,4 +1,5 @@
 -- What holds where the two loops of `feed_piece` stand, and that each turn keeps it. Assumes nothing.
+use Rattle.std.specs.Prelude.{None}
 use Prim.Native.Nat.{ℕ, ◌+◌, ◌*◌, ◌<◌, ◌≤◌}
 use mathlib.Core.Path.{◌≡◌, refl, sym, ap, ◌∙◌}
 use mathlib.Core.Bool.{true, false, true≢false}
@@ -138,7 +139,7 @@ module _ {t k : List ℕ} {d₁ : Desk} {ph₁ : Phase} {p₁ : Part} {f₁ o₁
       ∙ after_put (st d ph p f k) (drop (i + 1) t) D.going c z e
       ∙ ap (λ (x : St). after x (drop (i + 1) t)) (λ j. st d ph (sym a j) (sym b j) k))
 
-  pub digits_whole : {p₂ : Part} {f₂ : List ℕ} {m : ℕ} → Whole (drop i t) p.count f m f₂ → (0 < m → p.half ≡ 16) → length f₂ ≡ 1486
+  pub digits_whole : {p₂ : Part} {f₂ : List ℕ} {m : ℕ} → Whole (drop i t) p.count f m f₂ → (0 < m → p.half ≡ None) → length f₂ ≡ 1486
       → p₂ ≡ further p m → Digits t k d₁ ph₁ p₁ f₁ o₁ n₁ i₁ d ph p₂ f₂ o n (i + 2 * m)
   digits_whole {p₂} {f₂} {m} w g l r =
       digits_on (omega arith) (omega (arith, w.there, length-drop i t, D.within)) (rw r (begun_further p m D.begun w.room g)) l

@@ -1,4 +1,5 @@
 -- Laws of a line as its digits come. Assumes nothing.
+use Rattle.std.specs.Prelude.{Some, None}
 use Prim.Native.Nat.{ℕ, ◌+◌, ◌*◌, ◌<◌, ◌≤◌}
 use mathlib.Core.Path.{◌≡◌, refl, sym}
 use mathlib.Core.Bool.{true, false}
@@ -7,7 +8,7 @@ use native.Mathlib.Omega.{arith}
 use lib.Dec.{ltb, leb}
 use lib.ListN.{length, get_or, set, take, length-take}
 use lib.Seq.{paste-zero, get_or-take}
-use borrow.Author.Tests.{eq-eqb, ne_eqb, lt-ltb, le-ltb, ltb-true, ltb-false}
+use borrow.Author.Tests.{lt-ltb, le-ltb, ltb-true, ltb-false}
 use Rattle.wire.proofs.Cases.{by}
 use Rattle.order_text.specs.Digits.{digit_of, byte_of}
 use Rattle.order_text.specs.Lines.{has_bad, bytes_of}
@@ -22,22 +23,22 @@ module _ (p : Part) (c : ℕ) where
   unfolding fails
   fails_digit h = rw (lt-ltb 15 (digit_of c) h)
 
-  pub fails_room : digit_of c ≤ 15 → p.half ≡ 16 → fails p c ≡ leb 1486 p.count
+  pub fails_room : digit_of c ≤ 15 → p.half ≡ None → fails p c ≡ leb 1486 p.count
   unfolding fails
-  fails_room h e = rw (le-ltb 15 (digit_of c) h, eq-eqb p.half 16 e)
+  fails_room h e = rw (le-ltb 15 (digit_of c) h, e)
 
-  pub fails_not : digit_of c ≤ 15 → (p.half ≡ 16 → ⊥) → fails p c ≡ false
+  pub fails_not : digit_of c ≤ 15 → {h : ℕ} → p.half ≡ Some h → fails p c ≡ false
   unfolding fails
-  fails_not h e = rw (le-ltb 15 (digit_of c) h, ne_eqb p.half 16 e)
+  fails_not h e = rw (le-ltb 15 (digit_of c) h, e)
 
 module _ (p : Part) (d : ℕ) (f : List ℕ) where
-  pub put_first : p.half ≡ 16 → (part p.count d ≡ put_part p d) × (f ≡ put_frame p d f)
+  pub put_first : p.half ≡ None → (part p.count (Some d) ≡ put_part p d) × (f ≡ put_frame p d f)
   unfolding put_part put_frame
-  put_first e = (sym (rw (eq-eqb p.half 16 e)), sym (rw (eq-eqb p.half 16 e)))
+  put_first e = (sym (rw e), sym (rw e))
 
-  pub put_second : (p.half ≡ 16 → ⊥) → (part (p.count + 1) 16 ≡ put_part p d) × (set f p.count (16 * p.half + d) ≡ put_frame p d f)
+  pub put_second : (h : ℕ) → p.half ≡ Some h → (part (p.count + 1) None ≡ put_part p d) × (set f p.count (16 * h + d) ≡ put_frame p d f)
   unfolding put_part put_frame
-  put_second e = (sym (rw (ne_eqb p.half 16 e)), sym (rw (ne_eqb p.half 16 e)))
+  put_second h e = (sym (rw e), sym (rw e))
 
 -- ---- whole bytes
 

@@ -1,4 +1,5 @@
 -- The whole program: what it prints for an input that was read in pieces is what the document says of its lines. Assumes nothing.
+use Rattle.std.specs.Prelude.{Option, Some, None}
 use Prim.Native.Nat.{ℕ, ◌+◌, ◌*◌, ◌/◌, ◌<◌, ◌≤◌}
 use mathlib.Core.Path.{◌≡◌, refl, sym, ap, ◌∙◌, subst}
 use mathlib.Core.Bool.{true, false, true≢false}
@@ -8,7 +9,7 @@ use lib.Dec.{eqb, ltb}
 use lib.ListN.{length, set, take, replicate, length-append, length-set}
 use lib.Seq.{take-suc-set}
 use native.Mathlib.Numerals.{add-one}
-use borrow.Author.Tests.{eqb-true, eqb-false, eq-eqb, ne_eqb, ltb-true, ltb-false, leb-true, leb-false, lt-ltb, le-ltb}
+use borrow.Author.Tests.{eqb-true, eqb-false, ne_eqb, ltb-true, ltb-false, leb-true, leb-false, lt-ltb, le-ltb}
 use Rattle.wire.proofs.Cases.{by}
 use Rattle.desk.specs.Record.{empty_at}
 use Rattle.desk.specs.declared.Desk.{Desk}
@@ -19,7 +20,7 @@ use Rattle.order_text.proofs.Lines.{head_digit, tail_good}
 use Rattle.order_text.proofs.Refused.{bad_character, odd_line, overlong_line, good_line, has_bad_lem}
 use Rattle.order_run.specs.Turns.{is_over, Said, failed, after_line, kept_line}
 use Rattle.order_run.specs.Printed.{lines_in, said, printed}
-use Rattle.order_run.specs.Feed.{nothing, St, st, Did, behind, end_said, end_kept, ended, stopped, fails, put_frame, put, after, begun, line_ended, closed, finished, in_pieces, joined, st_of, AsPrinted}
+use Rattle.order_run.specs.Feed.{nothing, St, st, Did, behind, end_said, end_kept, ended, stopped, fails, put_byte, put_frame, put, after, begun, line_ended, closed, finished, in_pieces, joined, st_of, AsPrinted}
 use Rattle.order_run.specs.declared.digits.Part.{Part}
 use Rattle.order_run.specs.declared.Run.{Run}
 use Rattle.order_run.proofs.Parts.{fails_room, fails_not, put_first, put_second}
@@ -57,8 +58,8 @@ record Pairs (n : ℕ) (f w : List ℕ) : Type 0 where
   bytes : bytes_of w ≡ take n f
 
 data Partly (s : St) : List ℕ → Type 0 where
-  whole : (w : List ℕ) → s.part.half ≡ 16 → Pairs s.part.count s.frame w → Partly s w
-  halved : (w : List ℕ) (c : ℕ) → digit_of c ≡ s.part.half → digit_of c ≤ 15 → s.part.count < 1486 → Pairs s.part.count s.frame w → Partly s (w ++ c ∷ [])
+  whole : (w : List ℕ) → s.part.half ≡ None → Pairs s.part.count s.frame w → Partly s w
+  halved : (w : List ℕ) (c : ℕ) → s.part.half ≡ Some (digit_of c) → digit_of c ≤ 15 → s.part.count < 1486 → Pairs s.part.count s.frame w → Partly s (w ++ c ∷ [])
 
 no_pairs : (f : List ℕ) → Pairs 0 f []
 unfolding has_bad bytes_of
@@ -82,12 +83,12 @@ module _ (s : St) where
   line_said : {w : List ℕ} → Partly s w
       → (end_said s ≡ after_line s.phase s.desk (line_of 1486 w) s.kept) × (end_kept s ≡ kept_line s.phase s.desk (line_of 1486 w) s.kept)
   line_said (whole w h p) =
-      let e = end_whole s (eq-eqb s.part.half 16 h) in
+      let e = end_whole s h in
       let g : line_of 1486 w ≡ good (take s.part.count s.frame) =
       good_line 1486 w p.digits (λ o. omega (arith, o, p.even)) (omega (arith, p.even, p.room)) ∙ ap good p.bytes in
       rw g (sym e.0, sym e.1)
   line_said (halved v c d h l p) =
-      let e = end_odd s (ne_eqb s.part.half 16 (λ q. omega (arith, d, h, q))) in
+      let e = end_odd s d in
       let g : line_of 1486 (v ++ c ∷ []) ≡ bad = odd_line 1486 (v ++ c ∷ []) (omega (arith, length-append v (c ∷ []), p.even)) in
       rw g (sym e.0, sym e.1)
 
@@ -125,7 +126,7 @@ first_at (a ∷ w) c t g z =
 -- ---- one character more
 
 -- a digit begins a byte
-put_begins : (s : St) (c : ℕ) (w : List ℕ) → fails s.part c ≡ false → s.part.half ≡ 16 → Pairs s.part.count s.frame w → Partly (put s (digit_of c)) (w ++ c ∷ [])
+put_begins : (s : St) (c : ℕ) (w : List ℕ) → fails s.part c ≡ false → s.part.half ≡ None → Pairs s.part.count s.frame w → Partly (put s (digit_of c)) (w ++ c ∷ [])
 put_begins s c w f h p =
     let d = put_digit s.part c f in
     let q = put_first s.part (digit_of c) s.frame h in
@@ -133,13 +134,13 @@ put_begins s c w f h p =
     subst (λ (x : St). Partly x (w ++ c ∷ [])) (λ i. st s.desk s.phase (q.0 i) (q.1 i) s.kept) (halved w c refl d l p)
 
 -- and ends it
-put_ends : (s : St) (a c : ℕ) (w : List ℕ) → length s.frame ≡ 1486 → fails s.part c ≡ false → digit_of a ≡ s.part.half → digit_of a ≤ 15 → s.part.count < 1486
+put_ends : (s : St) (a c : ℕ) (w : List ℕ) → length s.frame ≡ 1486 → fails s.part c ≡ false → s.part.half ≡ Some (digit_of a) → digit_of a ≤ 15 → s.part.count < 1486
     → Pairs s.part.count s.frame w → Partly (put s (digit_of c)) (w ++ a ∷ c ∷ [])
 put_ends s a c w m f e h l p =
     let d = put_digit s.part c f in
     let n = s.part.count in
-    let q = put_second s.part (digit_of c) s.frame (λ x. omega (arith, e, h, x)) in
-    let b : 16 * s.part.half + digit_of c ≡ byte_of a c = ap (λ (x : ℕ). 16 * x + digit_of c) (sym e) ∙ sym (byte_digits a c h d) in
+    let q = put_second s.part (digit_of c) s.frame (digit_of a) e in
+    let b : 16 * digit_of a + digit_of c ≡ byte_of a c = sym (byte_digits a c h d) in
     subst (λ (x : St). Partly x (w ++ a ∷ c ∷ [])) (λ i. st s.desk s.phase (q.0 i) (q.1 i) s.kept)
     (whole (w ++ a ∷ c ∷ []) refl
     (record {
@@ -150,8 +151,8 @@ put_ends s a c w m f e h l p =
           more_bytes w n a c p.even
           ∙ ap (λ (x : List ℕ). x ++ byte_of a c ∷ []) p.bytes
           ∙ ap (λ (x : ℕ). take n s.frame ++ x ∷ []) (sym b)
-          ∙ sym (take-suc-set s.frame n (16 * s.part.half + digit_of c) (omega arith))
-          ∙ ap (λ (x : ℕ). take x (set s.frame n (16 * s.part.half + digit_of c))) (sym (add-one n));
+          ∙ sym (take-suc-set s.frame n (16 * digit_of a + digit_of c) (omega arith))
+          ∙ ap (λ (x : ℕ). take x (set s.frame n (16 * digit_of a + digit_of c))) (sym (add-one n));
     }))
 
 -- a line with a character that fails is bad
@@ -172,7 +173,7 @@ fails_bad s {w} c r P f =
         let l = leb-true 1486 s.part.count (sym (fails_room s.part c d h) ∙ f) in
         long w (omega (arith, p.even, p.room, l))
     full (halved w a e h l p) d =
-        absurd (true≢false (sym f ∙ fails_not s.part c d (λ x. omega (arith, e, h, x))))
+        absurd (true≢false (sym f ∙ fails_not s.part c d e))
 
 -- ---- by lines
 
@@ -251,7 +252,7 @@ module _ (s : St) (n : is_over s.phase ≡ false) where
       end_begun (whole (c ∷ w) h p) p.digits (omega arith) (begun_bytes s.part h ∙ lt-ltb 0 s.part.count (omega (arith, p.even)))
   by_end (halved w c e h l p) =
       end_begun (halved w c e h l p) (good_append w c p.digits h) (omega (arith, length-append w (c ∷ [])))
-      (begun_digit s.part (λ x. omega (arith, e, h, x)))
+      (begun_digit s.part (digit_of c) e)
 
 -- ---- every text
 
@@ -261,7 +262,11 @@ part_good (halved w c e h l p) = good_append w c p.digits h
 
 put_long : (p : Part) (d : ℕ) (f : List ℕ) → length (put_frame p d f) ≡ length f
 unfolding put_frame
-put_long p d f = by (eqb p.half 16) (λ e. rw e) (λ e. rw e (length-set f p.count (16 * p.half + d)))
+put_long p d f = go p.half
+  where
+    go : (x : Option ℕ) → length (put_byte p.count x d f) ≡ length f
+    go None = refl
+    go (Some h) = length-set f p.count (16 * h + d)
 
 put_partly : (s : St) {w : List ℕ} (c : ℕ) → length s.frame ≡ 1486 → fails s.part c ≡ false → Partly s w → Partly (put s (digit_of c)) (w ++ c ∷ [])
 put_partly s c m f (whole w h p) = put_begins s c w f h p

@@ -1,6 +1,6 @@
 -- The order program by characters, as they come: what a piece of input does to a run, and what it prints. That pieces give what the whole
 -- text gives, as Printed says it by lines, is `AsPrinted`, which proofs/Whole proves. Assumes nothing.
-use Rattle.std.specs.Prelude.{ℕ, ◌+◌, ◌*◌, ◌<◌, ◌≤◌, ◌≡◌, Bool, true, false, List, [], ◌∷◌, ◌++◌, eqb, ltb, leb, length, get_or, set, take, replicate}
+use Rattle.std.specs.Prelude.{ℕ, ◌+◌, ◌*◌, ◌<◌, ◌≤◌, ◌≡◌, Bool, true, false, List, [], ◌∷◌, ◌++◌, eqb, ltb, leb, length, get_or, set, take, replicate, Option, Some, None, is_none}
 use Rattle.std.proofs.Math.Seq.{paste}
 use Rattle.wire.specs.Words.{pick}
 use Rattle.wire.specs.Store.{laid}
@@ -16,12 +16,12 @@ use Rattle.order_run.specs.declared.turns.Phase.TheVariants.{Entry}
 use Rattle.order_run.specs.declared.Run.{Run}
 use Rattle.order_run.specs.declared.Fed.{Fed}
 
--- a line so far: count bytes at the front of the frame, and the digit of one that is begun, or 16
-abbrev pub part : ℕ → ℕ → Part
+-- a line so far: count bytes at the front of the frame, and the digit of one that is begun
+abbrev pub part : ℕ → Option ℕ → Part
 part count half = record { count = count; half = half }
 
 abbrev pub nothing : Part
-nothing = part 0 16
+nothing = part 0 None
 
 -- where a run stands, with its frame and its data buffer
 pub record St : Type 0 where
@@ -52,12 +52,12 @@ stopped s = read (failed s.desk) s.frame s.kept
 -- a line's end: "an odd line", or a frame
 unfoldable pub end_said : St → Said
 end_said s =
-    pick (eqb s.part.half 16) (after_frame s.phase s.desk (take s.part.count s.frame) s.kept)
+    pick (is_none s.part.half) (after_frame s.phase s.desk (take s.part.count s.frame) s.kept)
     (failed s.desk)
 
 unfoldable pub end_kept : St → List ℕ
 end_kept s =
-    pick (eqb s.part.half 16) (kept_frame s.phase s.desk (take s.part.count s.frame) s.kept)
+    pick (is_none s.part.half) (kept_frame s.phase s.desk (take s.part.count s.frame) s.kept)
     s.kept
 
 abbrev pub ended : St → Did
@@ -65,14 +65,18 @@ ended s = read (end_said s) s.frame (end_kept s)
 
 -- "The first character that is not lower-case hexadecimal", and the first of "an overlong line" that has no room
 unfoldable pub fails : Part → ℕ → Bool
-fails p c = pick (ltb 15 (digit_of c)) true (pick (eqb p.half 16) (leb 1486 p.count) false)
+fails p c = pick (ltb 15 (digit_of c)) true (pick (is_none p.half) (leb 1486 p.count) false)
 
 -- a digit begins a byte or ends it
 unfoldable pub put_part : Part → ℕ → Part
-put_part p d = pick (eqb p.half 16) (part p.count d) (part (p.count + 1) 16)
+put_part p d = pick (is_none p.half) (part p.count (Some d)) (part (p.count + 1) None)
+
+abbrev pub put_byte : ℕ → Option ℕ → ℕ → List ℕ → List ℕ
+put_byte at None d frame = frame
+put_byte at (Some high) d frame = set frame at (16 * high + d)
 
 unfoldable pub put_frame : Part → ℕ → List ℕ → List ℕ
-put_frame p d frame = pick (eqb p.half 16) frame (set frame p.count (16 * p.half + d))
+put_frame p d frame = put_byte p.count p.half d frame
 
 abbrev pub put : St → ℕ → St
 put s d = st s.desk s.phase (put_part s.part d) (put_frame s.part d s.frame) s.kept
@@ -90,7 +94,7 @@ after s (c ∷ t) = pick (is_over s.phase) (record { st = s; text = [] }) (behin
 
 -- the input's end: a last line that lacks its line end, and then what is left to say
 unfoldable pub begun : Part → Bool
-begun p = pick (eqb p.half 16) (ltb 0 p.count) true
+begun p = pick (is_none p.half) (ltb 0 p.count) true
 
 unfoldable pub line_ended : St → Did
 line_ended s = pick (begun s.part) (after s (10 ∷ [])) (record { st = s; text = [] })
@@ -115,8 +119,7 @@ joined (p ∷ ps) = p ++ joined ps
 -- a part of a line as digits make it
 pub record Begun (p : Part) : Type 0 where
   pub room : p.count ≤ 1486
-  pub digit : p.half ≤ 16
-  pub place : p.half < 16 → p.count < 1486
+  pub digit : (high : ℕ) → p.half ≡ Some high → (high ≤ 15) × (p.count < 1486)
 
 abbrev pub further : Part → ℕ → Part
 further p more = part (p.count + more) p.half

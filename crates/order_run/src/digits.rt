@@ -1,21 +1,16 @@
 // A line as its digits come: the bytes so far stand at the front of the frame.
-ghost use Rattle.std.specs.Prelude.{◌≡◌, ◌+◌, ◌≤◌, ◌<◌, eqb, length, drop};
+ghost use Rattle.std.specs.Prelude.{◌≡◌, None, ◌+◌, ◌≤◌, ◌<◌, length, drop};
 ghost use Rattle.order_text.specs.Digits.{byte_of};
 ghost use Rattle.order_run.specs.Feed.{nothing as Feed·nothing, begun, further as Feed·further, fails, put_part, put_frame, Begun, Table, Whole};
 
-use crate::turns::least;
-
 // "at most 1,486 bytes each"
 pub const LONGEST: usize = 1486;
-
-// What stands in `half` where no byte is begun.
-const NONE: u8 = 16;
 
 // How many bytes there are, and the first digit of one that is begun.
 #[derive(Clone, Copy)]
 pub struct Part {
     pub count: usize,
-    pub half: u8,
+    pub half: Option<u8>,
 }
 
 pub(crate) fn nothing() -> Part
@@ -23,38 +18,26 @@ pub(crate) fn nothing() -> Part
 {
     Part {
         count: 0,
-        half: NONE,
+        half: None,
     }
-}
-
-pub(crate) fn is_whole(part: Part) -> bool
-    ensures { result ≡ eqb part.half 16 }
-{
-    part.half == NONE
 }
 
 // Whether a line has characters that no line end has followed.
+#[tactic(auto, using(wire::proofs::Tests::tests), unfolding(crate::specs::Feed::begun))]
 pub(crate) fn is_begun(part: Part) -> bool
     ensures { result ≡ begun part }
 {
-    if part.half == NONE {
-        return 0 < part.count;
-    }
-    true
+    part.half.is_some() || 0 < part.count
 }
 
+#[tactic(auto, using(wire::proofs::Tests::tests), unfolding(crate::specs::Feed::fails))]
 pub(crate) fn is_bad(part: Part, c: u8) -> bool
     ensures { result ≡ fails part c }
 {
-    if 15 < order_text::digit(c) {
-        return true;
-    }
-    if part.half == NONE {
-        return LONGEST <= part.count;
-    }
-    false
+    15 < order_text::digit(c) || part.half.is_none() && LONGEST <= part.count
 }
 
+#[tactic(auto, unfolding(crate::specs::Feed::put_part, crate::specs::Feed::put_frame))]
 pub(crate) fn put(part: Part, digit: u8, frame: &mut [u8]) -> Part
     requires begun { Begun part }
     requires digit_bound { digit < 16 }
@@ -62,14 +45,18 @@ pub(crate) fn put(part: Part, digit: u8, frame: &mut [u8]) -> Part
     ensures { (result ≡ put_part part digit) × (frame.new ≡ put_frame part digit frame.old) }
 {
     let count = part.count;
-    let half = part.half;
-    if half == NONE {
-        return Part { count, half: digit };
-    }
-    frame[count] = 16 * half + digit;
-    Part {
-        count: count + 1,
-        half: NONE,
+    match part.half {
+        None => Part {
+            count,
+            half: Some(digit),
+        },
+        Some(high) => {
+            frame[count] = 16 * high + digit;
+            Part {
+                count: count + 1,
+                half: None,
+            }
+        }
     }
 }
 
@@ -77,11 +64,9 @@ pub(crate) fn put(part: Part, digit: u8, frame: &mut [u8]) -> Part
 pub(crate) fn digit_table() -> [u8; 256]
     ensures { Table result }
 {
-    let mut table = [NONE; 256];
-    let mut i: usize = 0;
-    while i < 256 {
-        table[i] = order_text::digit(i as u8);
-        i += 1;
+    let mut table = [0; 256];
+    for c in 0..256 {
+        table[c] = order_text::digit(c as u8);
     }
     table
 }
@@ -109,7 +94,7 @@ fn pairs(table: &[u8; 256], text: &[u8], frame: &mut [u8], at: usize) -> usize
     requires frame_len { length frame.old ≡ 1486 }
     ensures { Whole text.now at frame.old result frame.new }
 {
-    let most = least(text.len() / 2, frame.len() - at);
+    let most = (text.len() / 2).min(frame.len() - at);
     let mut k = 0;
     while k < most {
         let b = byte_by(table, text[2 * k], text[2 * k + 1]);
@@ -134,12 +119,12 @@ pub(crate) fn whole_bytes(
     requires from_in_bounds { from ≤ length text.now }
     requires begun { Begun part }
     requires frame_len { length frame.old ≡ 1486 }
-    ensures { Whole (drop from text.now) part.count frame.old result frame.new × (0 < result → part.half ≡ 16) }
+    ensures { Whole (drop from text.now) part.count frame.old result frame.new × (0 < result → part.half ≡ None) }
 {
-    if part.half == NONE {
-        return pairs(table, &text[from..], frame, part.count);
+    match part.half {
+        None => pairs(table, &text[from..], frame, part.count),
+        Some(_) => 0,
     }
-    0
 }
 
 pub(crate) fn further(part: Part, more: usize) -> Part

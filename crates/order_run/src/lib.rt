@@ -13,8 +13,8 @@ ghost use Rattle.order_run.specs.Feed.{st_of, st, after, line_ended, finished, e
 
 use desk::Desk;
 use desk::change::Change;
-use digits::{Part, digit_table, further, is_bad, is_begun, is_whole, nothing, put, whole_bytes};
-use turns::{Phase, all_read, frame_read, is_quiet, last_number, least, print_answer};
+use digits::{Part, digit_table, further, is_bad, is_begun, nothing, put, whole_bytes};
+use turns::{Phase, all_read, frame_read, is_quiet, last_number, print_answer};
 
 // The most characters of a piece, and the room for what a piece prints: a request for each of them, 33 characters, and the longest line
 // that ends a run, 00 and 4,096 bytes.
@@ -55,11 +55,10 @@ fn line_end(desk: Desk, phase: Phase, part: Part, frame: &[u8], data: &mut [u8])
     requires frame_len { (length frame.now ≡ 1486) × (length «data».old ≡ 4096) }
     ensures { Says desk (end_said (st desk phase part frame.now «data».old)) result «data».new × («data».new ≡ end_kept (st desk phase part frame.now «data».old)) }
 {
-    if is_whole(part) {
-        let count = part.count;
-        return frame_read(desk, phase, &frame[..count], data);
+    match part.half {
+        None => frame_read(desk, phase, &frame[..part.count], data),
+        Some(_) => None,
     }
-    None
 }
 
 // "nested loops over lines and digits, left by a label at the first bad character"
@@ -151,7 +150,7 @@ pub fn feed(
     requires { Going run }
     ensures { Feeds (after (st_of run frame.old «data».old) (take 4096 text.now)) 4096 result frame.new «data».new out.old out.new }
 {
-    let end = least(PIECE, text.len());
+    let end = PIECE.min(text.len());
     let table = digit_table();
     feed_piece(run, &table, &text[..end], frame, data, out)
 }

@@ -82,19 +82,13 @@ fn request(desk: Desk, out: &mut [u8], at: usize) -> Turn
     }
 }
 
-pub(crate) fn least(a: usize, b: usize) -> usize
-    ensures { result ≡ min a b }
-{
-    if a < b { a } else { b }
-}
-
 // "after 00, the stored payload"
 fn done(desk: Desk, payload: u32, data: &[u8], out: &mut [u8], at: usize) -> Turn
     requires good { Good desk }
     requires data_in_bounds { at + 2 * length «data».now + 3 ≤ length out.old }
     ensures { Turned (last desk (0 ∷ take payload «data».now)) at result out.old out.new }
 {
-    let stored = least(payload as usize, data.len());
+    let stored = (payload as usize).min(data.len());
     let none = [0u8; 1];
     let from = order_text::encode_at(&none, out, at);
     let end = print_line(&data[..stored], out, from);

@@ -10,6 +10,6 @@ use Rattle.order_run.proofs.feed.Goals as goal
 pub returns : goal.returns
 returns c =
     let a = c.args in
-    let l = c.least-end in
+    let l = c.min-end in
     let e : take l.result a.text.now ≡ take 4096 a.text.now = ap (λ (n : ℕ). take n a.text.now) l.ensures ∙ take_least 4096 a.text.now in
     rw e at (feeds_within {m = 4096} (simp length-take (omega (arith, l.ensures))) c.feed_piece.ensures)

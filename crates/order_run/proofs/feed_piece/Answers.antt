@@ -1,4 +1,5 @@
 -- `feed_piece` meets its contract. Both loops have one invariant each: what is left to do from here gives what the whole gives.
+use Rattle.std.specs.Prelude.{None}
 use mathlib.Core.Path.{◌≡◌, sym, ap, ◌∙◌}
 use mathlib.Core.Bool.{false}
 use mathlib.Core.List.{List}
@@ -20,7 +21,7 @@ use Rattle.order_run.proofs.feed_piece.Goals.{else-loop-i-test, then-loop-i-test
 gone_on : {t : List ℕ} {s₁ : St} {o₁ : List ℕ} {d : Desk} {ph : Phase} {p : Part} {f k o : List ℕ} {n i : ℕ} {p₂ : Part} {f₂ : List ℕ} {m : ℕ}
     {d' : Desk} {ph' : Phase} {p' : Part} {f' o' : List ℕ} {n' i' : ℕ}
     → Lines t s₁ o₁ (st d ph p f k) o n i → length t ≤ 4096 → is_over ph ≡ false
-    → Whole (drop i t) p.count f m f₂ × (0 < m → p.half ≡ 16) → length f₂ ≡ length f → p₂ ≡ further p m
+    → Whole (drop i t) p.count f m f₂ × (0 < m → p.half ≡ None) → length f₂ ≡ length f → p₂ ≡ further p m
     → Digits t k d ph p₂ f₂ o n (i + 2 * m) d' ph' p' f' o' n' i' → Lines t s₁ o₁ (st d' ph' p' f' k) o' n' i'
 gone_on L b g w l e D = through (through L (digits_whole (digits_start L b g) w.0 w.1 (l ∙ L.long) e)) D
 

@@ -1,17 +1,17 @@
 -- `line_end` meets its contract: a whole frame is read, and an odd line is bad.
-use mathlib.Core.Path.{sym, ◌∙◌}
+use mathlib.Core.Path.{◌∙◌}
 use Rattle.order_run.specs.Feed.{st}
 use Rattle.order_run.proofs.Characters.{end_whole, end_odd}
 use Rattle.order_run.proofs.line_end.Goals as goal
 
-pub returns-then-is_whole : goal.returns-then-is_whole
-returns-then-is_whole c =
+pub returns-in-None : goal.returns-in-None
+returns-in-None c =
     let a = c.args in
-    let e = end_whole (st a.desk a.phase a.part a.frame.now a.«data».now) (sym c.is_whole.ensures ∙ c.if-is_whole.true) in
+    let e = end_whole (st a.desk a.phase a.part a.frame.now a.«data».now) c.in-None.is in
     let r = c.frame_read.ensures in
     (rw e.0 at r.0, r.1 ∙ e.1)
 
-pub returns : goal.returns
-returns c =
+pub returns-in-Some : goal.returns-in-Some
+returns-in-Some c =
     let a = c.args in
-    end_odd (st a.desk a.phase a.part a.frame.now a.«data».now) (sym c.is_whole.ensures ∙ c.if-is_whole.false)
+    end_odd (st a.desk a.phase a.part a.frame.now a.«data».now) c.in-Some.is

@@ -6,7 +6,7 @@ use Rattle.order_run.proofs.digits.pairs.Goals as goal
 
 pub loop-k-init : goal.loop-k-init
 loop-k-init c =
-    (omega arith, omega (arith, c.least-most.ensures), omega (arith, c.least-most.ensures, c.requires.at_bound), c.requires.frame_len, none_whole c.requires.at_bound)
+    (omega arith, omega (arith, c.min-most.ensures), omega (arith, c.min-most.ensures, c.requires.at_bound), c.requires.frame_len, none_whole c.requires.at_bound)
 
 pub loop-k-preserved : goal.loop-k-preserved
 loop-k-preserved c =

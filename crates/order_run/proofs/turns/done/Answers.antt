@@ -6,7 +6,7 @@ pub print_line-end-requires : goal.print_line-end-requires
 print_line-end-requires c =
     let a = c.args in
     let e = c.encode_at-from in
-    done_room a.«data».now a.out.now a.at e.result c.least-stored.result _ c.requires.data_in_bounds e.ensures.0 e.auto.out
+    done_room a.«data».now a.out.now a.at e.result c.min-stored.result _ c.requires.data_in_bounds e.ensures.0 e.auto.out
 
 pub returns : goal.returns
 returns c =
@@ -14,4 +14,4 @@ returns c =
     let f = c.encode_at-from.ensures in
     let e = c.print_line-end.ensures in
     done_turned a.desk a.«data».now a.out.now _ _ a.at _ _ a.payload _ c.requires.good c.requires.data_in_bounds
-    c.least-stored.ensures f.0 f.1 e.0 e.1
+    c.min-stored.ensures f.0 f.1 e.0 e.1
