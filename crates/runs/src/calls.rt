@@ -1,32 +1,39 @@
 // The calls: a byte that names the call, the seat, and the call's arguments; a lent buffer is a part of the memory, by its place
 // and its length, as far as the memory reaches.
-ghost use Rattle.std.specs.Prelude.{IfOk};
 ghost use Rattle.desk.specs.Record.{Good};
+ghost use Rattle.runs.specs.Props.{good_props};
 
 use desk::{Called, Desk};
 use std::io;
 use transfer::Order;
 
+// The desk as it stands between two calls.
+#[derive(Clone, Copy)]
+pub(crate) struct Standing {
+    pub(crate) desk: Desk,
+    ghost good: { Good desk } by { Prim.hlevel good_props },
+}
+
+pub(crate) fn first() -> Standing {
+    Standing {
+        desk: Desk::fresh(),
+    }
+}
+
 // The answer, the counter of the next frame, and how many wait.
-fn told(rt: &impl Print, called: Called) -> io::Result<Desk>
+fn told(rt: &impl Print, called: Called) -> io::Result<Standing>
     requires { Good called.desk }
-    ensures { IfOk result Good }
 {
     let desk = called.desk;
     show::answer(rt, called.answer)?;
-    show::next(rt, desk.counter as u64, 2)?;
-    show::next(rt, desk.waiting as u64, 2)?;
-    Ok(desk)
+    print!(rt; " {:02x} {:02x}", desk.counter, desk.waiting)?;
+    Ok(Standing { desk })
 }
 
-pub(crate) fn fresh(rt: &impl Print, call: &[u8]) -> io::Result<Desk>
-    ensures { IfOk result Good }
-{
+pub(crate) fn fresh(rt: &impl Print, call: &[u8]) -> io::Result<Standing> {
     let desk = Desk::fresh_at(wire::byte(call, 1));
-    show::words(rt, b"fresh")?;
-    show::next(rt, desk.counter as u64, 2)?;
-    show::next(rt, desk.waiting as u64, 2)?;
-    Ok(desk)
+    print!(rt; "fresh {:02x} {:02x}", desk.counter, desk.waiting)?;
+    Ok(Standing { desk })
 }
 
 fn order(call: &[u8]) -> Order {
@@ -40,18 +47,12 @@ fn order(call: &[u8]) -> Order {
     }
 }
 
-pub(crate) fn enter(rt: &impl Print, desk: Desk, call: &[u8]) -> io::Result<Desk>
-    requires { Good desk }
-    ensures { IfOk result Good }
-{
-    told(rt, desk.enter(wire::byte(call, 1), order(call)))
+pub(crate) fn enter(rt: &impl Print, before: Standing, call: &[u8]) -> io::Result<Standing> {
+    told(rt, before.desk.enter(wire::byte(call, 1), order(call)))
 }
 
-pub(crate) fn leave(rt: &impl Print, desk: Desk, call: &[u8]) -> io::Result<Desk>
-    requires { Good desk }
-    ensures { IfOk result Good }
-{
-    told(rt, desk.leave(wire::byte(call, 1)))
+pub(crate) fn leave(rt: &impl Print, before: Standing, call: &[u8]) -> io::Result<Standing> {
+    told(rt, before.desk.leave(wire::byte(call, 1)))
 }
 
 // The buffer that a call lends, by its place in the memory and its length.
@@ -62,29 +63,28 @@ fn lent<'a>(call: &[u8], memory: &'a mut [u8]) -> &'a mut [u8] {
     &mut behind[..len]
 }
 
-pub(crate) fn send(rt: &impl Print, desk: Desk, call: &[u8], memory: &mut [u8]) -> io::Result<Desk>
-    requires { Good desk }
-    ensures { IfOk result Good }
-{
+pub(crate) fn send(
+    rt: &impl Print,
+    before: Standing,
+    call: &[u8],
+    memory: &mut [u8],
+) -> io::Result<Standing> {
     let buffer = lent(call, memory);
-    let after = told(rt, desk.send(wire::byte(call, 1), buffer))?;
-    show::words(rt, b" ")?;
+    let after = told(rt, before.desk.send(wire::byte(call, 1), buffer))?;
+    print!(rt; " ")?;
     show::bytes(rt, buffer)?;
     Ok(after)
 }
 
 pub(crate) fn receive(
     rt: &impl Print,
-    desk: Desk,
+    before: Standing,
     call: &[u8],
     memory: &mut [u8],
-) -> io::Result<Desk>
-    requires { Good desk }
-    ensures { IfOk result Good }
-{
+) -> io::Result<Standing> {
     let buffer = lent(call, memory);
     let reply = &call[call.len().min(10)..];
-    let after = told(rt, desk.receive(wire::byte(call, 1), reply, buffer))?;
+    let after = told(rt, before.desk.receive(wire::byte(call, 1), reply, buffer))?;
     show::looked(rt, buffer, 32, 4)?;
     Ok(after)
 }
@@ -92,11 +92,11 @@ pub(crate) fn receive(
 // No call of the desk: the host writes into its memory.
 pub(crate) fn lay(rt: &impl Print, call: &[u8], memory: &mut [u8]) -> io::Result<()> {
     wire::store_chunk(call, 5, call.len(), memory, wire::long_at(call, 1) as usize);
-    show::words(rt, b"laid")
+    print!(rt; "laid")
 }
 
 // No call of the desk: the whole memory is looked at.
 pub(crate) fn look(rt: &impl Print, memory: &[u8]) -> io::Result<()> {
-    show::words(rt, b"memory")?;
+    print!(rt; "memory")?;
     show::looked(rt, memory, 32, 4)
 }

@@ -4,10 +4,9 @@
 
 mod calls;
 
-ghost use Rattle.std.specs.Prelude.{◌≡◌, ◌≤◌, length, IfOk};
-ghost use Rattle.desk.specs.Record.{Good};
+ghost use Rattle.std.specs.Prelude.{◌≡◌, length};
 
-use desk::Desk;
+use calls::Standing;
 use std::io;
 use std::io::Read;
 
@@ -26,75 +25,66 @@ fn call_space() -> [u8; 2048]
     [0; 2048]
 }
 
-fn called(rt: &impl Print, desk: Desk, call: &[u8], memory: &mut [u8]) -> io::Result<Desk>
-    requires { Good desk }
-    ensures { IfOk result Good }
-{
+fn called(
+    rt: &impl Print,
+    before: Standing,
+    call: &[u8],
+    memory: &mut [u8],
+) -> io::Result<Standing> {
     match wire::byte(call, 0) {
         0x01 => calls::fresh(rt, call),
-        0x02 => calls::enter(rt, desk, call),
-        0x03 => calls::send(rt, desk, call, memory),
-        0x04 => calls::receive(rt, desk, call, memory),
-        0x05 => calls::leave(rt, desk, call),
+        0x02 => calls::enter(rt, before, call),
+        0x03 => calls::send(rt, before, call, memory),
+        0x04 => calls::receive(rt, before, call, memory),
+        0x05 => calls::leave(rt, before, call),
         0x06 => {
             calls::lay(rt, call, memory)?;
-            Ok(desk)
+            Ok(before)
         }
         0x07 => {
             calls::look(rt, memory)?;
-            Ok(desk)
+            Ok(before)
         }
-        0x00 => Ok(desk),
+        0x00 => Ok(before),
         _ => {
-            show::words(rt, b"no such call")?;
-            Ok(desk)
+            print!(rt; "no such call")?;
+            Ok(before)
         }
     }
 }
 
-// Puts the call of a line at the front of `space`: how many bytes it has. A note and an empty line have none.
-fn call_of(rt: &impl Print, line: &[u8], space: &mut [u8]) -> io::Result<usize>
-    ensures { IfOk result (λ n. n ≤ length space.new) }
-{
-    if wire::byte(line, 0) == b'#' {
-        return Ok(0);
+fn run_line(
+    rt: &impl Print,
+    before: Standing,
+    line: &[u8],
+    space: &mut [u8],
+    memory: &mut [u8],
+) -> io::Result<Standing> {
+    if line.is_empty() || line[0] == b'#' {
+        return Ok(before);
     }
     if let Some(n) = order_text::decode(line, space) {
-        return Ok(n);
+        let after = called(rt, before, &space[..n], memory)?;
+        println!(rt)?;
+        Ok(after)
+    } else {
+        println!(rt; "no such line")?;
+        Ok(before)
     }
-    show::words(rt, b"no such line\n")?;
-    Ok(0)
-}
-
-// The end of a line, where a call of n bytes has printed one.
-fn ended(rt: &impl Print, n: usize) -> io::Result<()> {
-    if 0 < n {
-        show::words(rt, b"\n")?;
-    }
-    Ok(())
 }
 
 fn run(
     rt: &impl Print,
-    first: Desk,
+    first: Standing,
     text: &[u8],
     space: &mut [u8],
     memory: &mut [u8],
-) -> io::Result<Desk>
-    requires { Good first }
-    ensures { IfOk result Good }
-{
-    let mut desk = first;
-    let mut at = 0;
-    while at < text.len() {
-        let rest = &text[at..];
-        let end = rest.iter().position(|&c| c == b'\n').unwrap_or(rest.len());
-        let n = call_of(rt, &rest[..end], space)?;
-        desk = called(rt, desk, &space[..n], memory)?;
-        ended(rt, n)?;
-        at += end + 1;
+) -> io::Result<Standing> {
+    let mut standing = first;
+    for line in text.split(|&c| c == b'\n') {
+        standing = run_line(rt, standing, line, space, memory)?;
     }
-    Ok(desk)
+    Ok(standing)
 }
 
 // The input comes in pieces of whole lines, at most 64 of them.
@@ -105,11 +95,11 @@ fn run_pieces(
     space: &mut [u8],
     memory: &mut [u8],
 ) -> io::Result<()> {
-    let mut desk = Desk::fresh();
+    let mut standing = calls::first();
     for _ in 0..64 {
         text.clear();
         input.by_ref().take(PIECE).read_to_end(text)?;
-        desk = run(rt, desk, text, space, memory)?;
+        standing = run(rt, standing, text, space, memory)?;
     }
     Ok(())
 }
