@@ -9,7 +9,8 @@ ghost use Rattle.order_text.specs.Digits.{digit_of, char_of, byte_of};
 ghost use Rattle.order_text.specs.Lines.{has_bad, bytes_of, line_of, answer_of, left_in};
 ghost use Rattle.order_text.specs.Text.{hex_text, text_in};
 
-// The digit that a character is, and 16 for a character that is none.
+// The digit that a character is, and 16 for a character that is none: 16 and not None, as digit_of says, which order_run's specs cite.
+#[tactic(auto, using(wire::proofs::Tests::tests), unfolding(crate::specs::Digits::digit_of))]
 pub fn digit(c: u8) -> u8
     ensures { result ≡ digit_of c }
 {
@@ -21,6 +22,7 @@ pub fn digit(c: u8) -> u8
 }
 
 // The character of the digit d % 16.
+#[tactic(auto, using(wire::proofs::Tests::tests), unfolding(crate::specs::Digits::char_of))]
 pub fn glyph(d: u8) -> u8
     ensures { result ≡ char_of (d % 16) }
 {
@@ -32,19 +34,17 @@ pub fn glyph(d: u8) -> u8
     }
 }
 
-// The byte that two characters say, and 256 where one of them is no digit.
+// The byte that two characters say, and 256 where one of them is no digit: byte_of has that number, as order_run's specs cite it.
+#[tactic(auto, using(wire::proofs::Tests::tests), unfolding(crate::specs::Digits::byte_of))]
 pub fn byte_of(a: u8, b: u8) -> u16
     ensures { result ≡ byte_of a b }
 {
     let high = digit(a);
     let low = digit(b);
-    if 15 < high {
+    if 15 < high || 15 < low {
         return 256;
     }
-    if 15 < low {
-        return 256;
-    }
-    16 * (high as u16) + (low as u16)
+    16 * u16::from(high) + u16::from(low)
 }
 
 // Whether a character of the line is no digit.
