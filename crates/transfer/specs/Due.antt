@@ -4,8 +4,10 @@ use Rattle.wire.specs.Words.{pick}
 use Rattle.mailbox.specs.Headers.{sub_index_of}
 use Rattle.services.specs.declared.Request.{Request}
 use Rattle.services.specs.declared.Request.TheVariants as request
-use Rattle.transfer.specs.Stage.{first_request_due, first_reply_due, segment_request_due, segment_reply_due}
+use Rattle.transfer.specs.Stage.{first_reply_due, segment_request_due, segment_reply_due, stage_of}
 use Rattle.transfer.specs.Entry.{kind_of}
+use Rattle.transfer.specs.declared.stage.Stage.{Stage}
+use Rattle.transfer.specs.declared.stage.Stage.TheVariants.{FirstRequest, FirstReply, SegmentRequest, SegmentReply, LaterFragment}
 use Rattle.transfer.specs.declared.Order.{Order}
 use Rattle.transfer.specs.declared.Transfer.{Transfer}
 use Rattle.transfer.specs.declared.entry.Kind.{Kind}
@@ -37,13 +39,15 @@ reply_as None o = reply.Fragment false
 unfoldable pub first_reply : Order → Reply
 first_reply o = reply_as (kind_of o.kind o.sub) o
 
+abbrev pub due_at : Stage → Order → ℕ → Due
+due_at FirstRequest o toggle = due.Request (first_request o)
+due_at FirstReply o toggle = due.Reply (first_reply o)
+due_at SegmentRequest o toggle = due.Request (request.Segment (eqb toggle 1))
+due_at SegmentReply o toggle = due.Reply reply.Segment
+due_at LaterFragment o toggle = due.Reply (reply.Fragment true)
+
 unfoldable pub due_of : Transfer → Due
-due_of t =
-    pick (eqb t.stage first_request_due) (due.Request (first_request t.order))
-    (pick (eqb t.stage first_reply_due) (due.Reply (first_reply t.order))
-    (pick (eqb t.stage segment_request_due) (due.Request (request.Segment (eqb t.toggle 1)))
-    (pick (eqb t.stage segment_reply_due) (due.Reply reply.Segment)
-    (due.Reply (reply.Fragment true)))))
+due_of t = due_at (stage_of t.stage) t.order t.toggle
 
 abbrev pub is_request : Due → Bool
 is_request (due.Request r) = true

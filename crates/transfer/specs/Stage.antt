@@ -1,5 +1,8 @@
 -- What is due of a transfer, by number: the record holds numbers only. Assumes nothing.
-use Rattle.std.specs.Prelude.{ℕ}
+use Rattle.std.specs.Prelude.{ℕ, eqb}
+use Rattle.wire.specs.Words.{pick}
+use Rattle.transfer.specs.declared.stage.Stage.{Stage}
+use Rattle.transfer.specs.declared.stage.Stage.TheVariants.{FirstRequest, FirstReply, SegmentRequest, SegmentReply, LaterFragment}
 
 abbrev pub first_request_due : ℕ
 first_request_due = 0
@@ -17,3 +20,12 @@ segment_reply_due = 3
 -- any reply after a list's first fragment
 abbrev pub later_fragment_due : ℕ
 later_fragment_due = 4
+
+-- what a number in the record stands for
+abbrev pub stage_of : ℕ → Stage
+stage_of n =
+    pick (eqb n first_request_due) FirstRequest
+    (pick (eqb n first_reply_due) FirstReply
+    (pick (eqb n segment_request_due) SegmentRequest
+    (pick (eqb n segment_reply_due) SegmentReply
+    LaterFragment)))

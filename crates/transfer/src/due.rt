@@ -3,7 +3,7 @@ ghost use Rattle.std.specs.Prelude.{◌≡◌};
 ghost use Rattle.transfer.specs.Due.{first_request, first_reply, due_of, awaiting_of};
 
 use crate::entry::Kind;
-use crate::stage::{FIRST_REPLY, FIRST_REQUEST, SEGMENT_REPLY, SEGMENT_REQUEST};
+use crate::stage::Stage;
 use crate::{Order, Transfer};
 use services::Request;
 
@@ -23,57 +23,57 @@ pub enum Due {
 }
 
 impl Order {
-    #[tactic(auto, unfolding(crate::specs::Due::first_request))]
-    fn first_request(self) -> Request
-        ensures { result ≡ first_request self }
+    // The first request, and what its reply is held to.
+    #[tactic(auto, unfolding(crate::specs::Due::first_request, crate::specs::Due::first_reply))]
+    fn first(self) -> (Request, Reply)
+        ensures { result ≡ (first_request self, first_reply self) }
     {
+        let index = self.index;
         match self.kind() {
-            Some(Kind::Upload(access)) => Request::Upload {
-                index: self.index,
-                access,
-            },
-            Some(Kind::Download(access)) => Request::Download {
-                index: self.index,
-                access,
-                value: self.value,
-                len: self.len,
-            },
-            Some(Kind::ObjectList) => Request::Information { kind: self.index },
-            Some(Kind::Quantities) | None => Request::Information { kind: 0 },
-        }
-    }
-
-    #[tactic(auto, unfolding(crate::specs::Due::first_reply))]
-    fn first_reply(self) -> Reply
-        ensures { result ≡ first_reply self }
-    {
-        match self.kind() {
-            Some(Kind::Upload(access)) => Reply::Upload {
-                index: self.index,
-                sub: access.sub_index(),
-            },
-            Some(Kind::Download(access)) => Reply::Download {
-                index: self.index,
-                sub: access.sub_index(),
-            },
-            Some(Kind::ObjectList | Kind::Quantities) | None => Reply::Fragment { begun: false },
+            Some(Kind::Upload(access)) => (
+                Request::Upload { index, access },
+                Reply::Upload {
+                    index,
+                    sub: access.sub_index(),
+                },
+            ),
+            Some(Kind::Download(access)) => (
+                Request::Download {
+                    index,
+                    access,
+                    value: self.value,
+                    len: self.len,
+                },
+                Reply::Download {
+                    index,
+                    sub: access.sub_index(),
+                },
+            ),
+            Some(Kind::ObjectList) => (
+                Request::Information { kind: index },
+                Reply::Fragment { begun: false },
+            ),
+            Some(Kind::Quantities) | None => (
+                Request::Information { kind: 0 },
+                Reply::Fragment { begun: false },
+            ),
         }
     }
 }
 
 impl Transfer {
-    #[tactic(auto, using(wire::proofs::Tests::tests), unfolding(crate::specs::Due::due_of))]
+    #[tactic(auto, unfolding(crate::specs::Due::due_of))]
     pub(crate) fn due(self) -> Due
         ensures { result ≡ due_of self }
     {
-        match self.stage {
-            FIRST_REQUEST => Due::Request(self.order.first_request()),
-            FIRST_REPLY => Due::Reply(self.order.first_reply()),
-            SEGMENT_REQUEST => Due::Request(Request::Segment {
+        match Stage::from(self.stage) {
+            Stage::FirstRequest => Due::Request(self.order.first().0),
+            Stage::FirstReply => Due::Reply(self.order.first().1),
+            Stage::SegmentRequest => Due::Request(Request::Segment {
                 toggle: self.toggle == 1,
             }),
-            SEGMENT_REPLY => Due::Reply(Reply::Segment),
-            _ => Due::Reply(Reply::Fragment { begun: true }),
+            Stage::SegmentReply => Due::Reply(Reply::Segment),
+            Stage::LaterFragment => Due::Reply(Reply::Fragment { begun: true }),
         }
     }
 
@@ -82,15 +82,15 @@ impl Transfer {
     pub(crate) fn awaiting(self) -> Transfer
         ensures { result ≡ awaiting_of self }
     {
-        if self.stage == SEGMENT_REQUEST {
+        if self.stage == Stage::SegmentRequest as u8 {
             return Transfer {
-                stage: SEGMENT_REPLY,
+                stage: Stage::SegmentReply as u8,
                 toggle: u8::from(self.toggle != 1),
                 ..self
             };
         }
         Transfer {
-            stage: FIRST_REPLY,
+            stage: Stage::FirstReply as u8,
             ..self
         }
     }

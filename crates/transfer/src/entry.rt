@@ -2,7 +2,7 @@
 ghost use Rattle.std.specs.Prelude.{◌≡◌};
 ghost use Rattle.transfer.specs.Entry.{kind_of, outside, unfit_of, opened_of};
 
-use crate::stage::FIRST_REQUEST;
+use crate::stage::Stage;
 use crate::{Order, Transfer};
 use mailbox::sub_index::SubIndex;
 
@@ -62,7 +62,7 @@ impl Order {
     {
         Transfer {
             order: self,
-            stage: FIRST_REQUEST,
+            stage: Stage::FirstRequest as u8,
             toggle: 0,
             left: self.budget,
             sum: 0,

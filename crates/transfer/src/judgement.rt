@@ -4,7 +4,7 @@ ghost use Rattle.transfer.specs.Judgement.{judge_reply, goes_on, budgeted, judge
 
 use crate::Transfer;
 use crate::due::Reply;
-use crate::stage::{LATER_FRAGMENT, SEGMENT_REQUEST};
+use crate::stage::Stage;
 use judge::Verdict;
 use wire::refusal::Refusal;
 
@@ -69,15 +69,17 @@ impl Transfer {
         ensures { result ≡ next_with (next_of self verdict) }
     {
         match verdict {
-            Verdict::SegmentsFollow => Some(self.advanced(SEGMENT_REQUEST, self.sum)),
-            Verdict::Segment { sum, last, .. } => (!last).then_some(self.advanced(
-                SEGMENT_REQUEST,
+            Verdict::SegmentsFollow => Some(self.advanced(Stage::SegmentRequest as u8, self.sum)),
+            Verdict::Segment {
                 sum,
-            )),
-            Verdict::Fragment { sum, last, .. } => (!last).then_some(self.advanced(
-                LATER_FRAGMENT,
+                last: false,
+                ..
+            } => Some(self.advanced(Stage::SegmentRequest as u8, sum)),
+            Verdict::Fragment {
                 sum,
-            )),
+                last: false,
+                ..
+            } => Some(self.advanced(Stage::LaterFragment as u8, sum)),
             Verdict::ReplyDue => Some(self.advanced(self.stage, self.sum)),
             _ => None,
         }

@@ -28,7 +28,7 @@ pub struct Order {
     pub budget: u16,
 }
 
-// Where a transfer stands: what is due (the numbers of the module stage), the toggle of the next segment's request, how many replies
+// Where a transfer stands: what is due (the number of a Stage), the toggle of the next segment's request, how many replies
 // its budget still has, and the sum of the chunks so far.
 #[repr(C)]
 #[derive(Clone, Copy, Debug, PartialEq, Eq)]
