@@ -1,6 +1,6 @@
 -- What a verdict of a transfer brings: the sum that it carries, that its chunk fits, and P. Assumes nothing.
 use mathlib.Core.Path.{◌≡◌, refl, sym, ◌∙◌}
-use mathlib.Core.Bool.{Bool, true, false, false≢true}
+use mathlib.Core.Bool.{Bool, true, false}
 use mathlib.Core.List.{List}
 use Prim.Native.Nat.{ℕ, ◌+◌, ◌≤◌}
 use native.Mathlib.Nat.{zero-add}
@@ -38,7 +38,7 @@ module _ (earlier n : ℕ) (s : List ℕ) where
   AddsOn v = goes_on v ≡ true → Adds earlier n s v
 
   over : {v : Verdict} → goes_on v ≡ false → AddsOn v
-  over h e = absurd (false≢true (sym h ∙ e))
+  over h e = cc
 
   alarming : Alarming AddsOn
   alarming = record { refused = over refl; emergency = λ m. over refl; aborted = λ b i c. over refl; other = over refl }
@@ -90,13 +90,13 @@ not_spent false v e = (refl, refl)
 not_spent true v e = go (goes_on v) refl e
   where
     go : (b : Bool) → goes_on v ≡ b → goes_on (pick b (Refused BudgetSpent) v) ≡ true → (true ≡ false) × (pick b (Refused BudgetSpent) v ≡ v)
-    go true h k = absurd (false≢true k)
-    go false h k = absurd (false≢true (sym h ∙ k))
+    go true h k = cc
+    go false h k = cc
 
 pub done_unsettled : (spent : Bool) (v : Verdict) → (answer_of (budgeted spent v)).number ≡ 0x00 → budgeted spent v ≡ v
 unfolding budgeted answer_of
 done_unsettled spent v = go (both spent (goes_on v))
   where
     go : (b : Bool) → (answer_of (pick b (Refused BudgetSpent) v)).number ≡ 0x00 → pick b (Refused BudgetSpent) v ≡ v
-    go true e = absurd (omega arith)
+    go true e = cc
     go false e = refl

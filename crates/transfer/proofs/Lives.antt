@@ -2,7 +2,7 @@
 use mathlib.Core.Path.{◌≡◌, refl, sym, ap, ap₂, ◌∙◌, subst}
 use mathlib.Core.Bool.{Bool, true, false, true≢false}
 use mathlib.Core.List.{List}
-use mathlib.Core.Option.{Option, none, some}
+use mathlib.Core.Option.{some}
 use Prim.Native.Nat.{ℕ, suc, ◌+◌, ◌-◌, ◌%◌, ◌≤◌, ◌<◌}
 use native.Mathlib.Omega.{arith}
 use borrow.Author.Tests.{leb-true, leb-false, eq-eqb, ne_eqb, eqb-false, eqb-true}
@@ -25,9 +25,6 @@ use Rattle.transfer.specs.declared.Order.{Order}
 use Rattle.transfer.specs.declared.Transfer.{Transfer}
 use Rattle.transfer.specs.declared.due.Due.TheVariants as due
 use Rattle.transfer.proofs.Chunks.{Ends, reply_adds, first_ends, by_reply, not_spent, done_unsettled}
-
-none≢some : {X : Type 0} {u : Transfer} → ◌≡◌ {A = Option Transfer} none (some u) → X
-none≢some e = let z : ◌≡◌ {A = ℕ} 0 1 = cc in absurd (omega arith)
 
 -- ---- one step
 
@@ -53,18 +50,18 @@ advances t u v s stage sum h a o e = record {
 
 pub went : (t u : Transfer) (v : Verdict) (s : List ℕ) → next_of t v ≡ some u → Went t u v s
 unfolding next_of
-went t u (Refused k) s e = none≢some e
-went t u (Emergency m) s e = none≢some e
-went t u (Aborted b i c) s e = none≢some e
-went t u (Done f p) s e = none≢some e
+went t u (Refused k) s e = cc
+went t u (Emergency m) s e = cc
+went t u (Aborted b i c) s e = cc
+went t u (Done f p) s e = cc
 went t u SegmentsFollow s e =
     let h : advanced_to t segment_request_due t.sum ≡ u = cc in
     advances t u SegmentsFollow s segment_request_due t.sum h refl refl (λ k. absurd (omega arith))
-went t u (Segment f k sum true) s e = none≢some e
+went t u (Segment f k sum true) s e = cc
 went t u (Segment f k sum false) s e =
     let h : advanced_to t segment_request_due sum ≡ u = cc in
     advances t u (Segment f k sum false) s segment_request_due sum h refl refl (λ k. absurd (omega arith))
-went t u (Fragment f k sum true) s e = none≢some e
+went t u (Fragment f k sum true) s e = cc
 went t u (Fragment f k sum false) s e =
     let h : advanced_to t later_fragment_due sum ≡ u = cc in
     advances t u (Fragment f k sum false) s later_fragment_due sum h refl refl (λ k. absurd (omega arith))

@@ -8,6 +8,7 @@ use Prim.Native.Nat.{ℕ}
 use borrow.Author.Tests.{eqb-true}
 use lib.Dec.{eqb, ltb, leb}
 use lib.ListN.{length}
+use Rattle.std.proofs.lemmas.Bool.{not-true}
 use Rattle.wire.specs.Words.{pick, both}
 use Rattle.wire.proofs.Cases.{by}
 use Rattle.wire.specs.declared.refusal.Refusal.TheVariants.{BudgetSpent}
@@ -39,7 +40,7 @@ all_of p (a ∷ l) = both (p a) (all_of p l)
 
 -- what is true of all of some numbers is true of one of them
 pub among : (p : ℕ → Bool) (l : List ℕ) (n : ℕ) → all_of p l ≡ true → one_of l n ≡ true → p n ≡ true
-among p [] n E h = absurd (false≢true h)
+among p [] n E h = cc
 among p (a ∷ l) n E h =
     by (p a)
     (λ z. by (eqb n a) (λ y. ap p (eqb-true n a y) ∙ z) (λ m. among p l n (rw z at E) (rw m at h)))
@@ -61,7 +62,7 @@ reply_number (reply.Fragment begun) sum n s = among of_reply list_numbers (answe
 
 both_first : (a b : Bool) → both a b ≡ true → a ≡ true
 both_first true b h = refl
-both_first false b h = absurd (false≢true h)
+both_first false b h = cc
 
 settled_number : (spent : Bool) (v : Verdict) → Listed (answer_of v).number → Listed (answer_of (budgeted spent v)).number
 unfolding budgeted answer_of
@@ -76,10 +77,6 @@ unfolding judged judged_as
 judged_number t n s =
     let v = judge_reply (reply_in (due_of t)) t.sum n s in
     settled_number (leb t.left 1) v (both_first (one_of judged_numbers (answer_of v).number) _ (reply_number (reply_in (due_of t)) t.sum n s))
-
-not-true : (b : Bool) → not b ≡ true → b ≡ false
-not-true true h = absurd (false≢true h)
-not-true false h = refl
 
 pub not_1x : (t : Transfer) (n : ℕ) (s : List ℕ) → is1x (answer_of (judged t n s)).number ≡ false
 not_1x t n s =

@@ -1,6 +1,6 @@
 -- What a refusal leaves. Assumes nothing.
 use mathlib.Core.Path.{◌≡◌, refl, sym, ap, ◌∙◌}
-use mathlib.Core.Bool.{Bool, true, false, false≢true}
+use mathlib.Core.Bool.{Bool, true, false}
 use mathlib.Core.Option.{Option, none}
 use Prim.Native.Nat.{ℕ}
 use borrow.Author.Tests.{lt-ltb}
@@ -36,7 +36,7 @@ too_long t s d e = (
 -- a verdict of 2x is the last
 last_of : (last : Bool) (t : Transfer) (sum n : ℕ) → leb 0x20 n ≡ false → leb 0x20 (done_or last sum n).number ≡ true → unless_last last t ≡ none
 last_of true t sum n h e = refl
-last_of false t sum n h e = absurd (false≢true (sym h ∙ e))
+last_of false t sum n h e = cc
 
 over : (t : Transfer) (v : Verdict) → leb 0x20 (answer_of v).number ≡ true → next_of t v ≡ none
 unfolding answer_of next_of
@@ -44,10 +44,10 @@ over t (Refused n) e = refl
 over t (Emergency m) e = refl
 over t (Aborted b i c) e = refl
 over t (Done f p) e = refl
-over t SegmentsFollow e = absurd (false≢true e)
+over t SegmentsFollow e = cc
 over t (Segment f k sum last) e = last_of last _ sum 0x01 refl e
 over t (Fragment f k sum last) e = last_of last _ sum 0x02 refl e
-over t ReplyDue e = absurd (false≢true e)
+over t ReplyDue e = cc
 
 pub ends_unstored : EndsUnstored
 ends_unstored t l r e h =
