@@ -141,14 +141,22 @@ fn counts_with(number: u8, counts: ObjectDescriptionListQueryCounts) -> Quantiti
     }
 }
 
+impl From<Result<ObjectDescriptionListQueryCounts, Refusal>> for Quantities {
+    ghost from_gives = { λ read r. r ≡ quantities_of read };
+
+    fn from(read: Result<ObjectDescriptionListQueryCounts, Refusal>) -> Quantities {
+        match read {
+            Ok(counts) => counts_with(0, counts),
+            Err(refusal) => counts_with(
+                refusal.number(),
+                ObjectDescriptionListQueryCounts::default(),
+            ),
+        }
+    }
+}
+
 pub fn coe_read_quantities(payload: &[u8]) -> Quantities
     ensures { result ≡ quantities_of (quantities_read payload.now) }
 {
-    match read_quantities(payload) {
-        Ok(counts) => counts_with(0, counts),
-        Err(refusal) => counts_with(
-            refusal.number(),
-            ObjectDescriptionListQueryCounts::default(),
-        ),
-    }
+    read_quantities(payload).into()
 }
