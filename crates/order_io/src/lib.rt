@@ -1,61 +1,42 @@
 // The order program's input and output: what is read goes to order_run, and what that prints is written.
 #![tactic(auto)]
 
-ghost use Rattle.std.specs.Prelude.{◌≡◌, length, take, IfOk, OnErr};
-ghost use Rattle.order_run.specs.Feed.{st_of, after, finished, Going};
+ghost use Rattle.std.specs.Prelude.{◌≡◌, take, IfOk, OnErr};
+ghost use Rattle.order_run.specs.Feed.{st_in, after, finished, Going};
 ghost use Rattle.order_io.specs.Shown.{Shows, Leaves};
 
-use order_run::{ROOM, Run};
+use order_run::{Buffers, Fed, Run};
 use std::io;
 use std::io::{Read, Write};
 
-// The room for what a piece prints. Its contract gives the length alone: the prover would write the zeros out.
-pub fn space() -> [u8; ROOM]
-    ensures { 143363 ≡ length result }
+// Writes what a piece prints, and gives back the run after it.
+fn print(output: &mut impl Write, fed: Fed, out: &[u8]) -> io::Result<Run>
+    ensures { IfOk result (λ r. r ≡ fed.run) }
 {
-    [0u8; ROOM]
-}
-
-fn print(output: &mut impl Write, out: &[u8], n: usize) -> io::Result<()> {
-    if n <= out.len() {
-        output.write_all(&out[0..n])?;
+    if let Some(text) = out.get(..fed.printed) {
+        output.write_all(text)?;
     }
-    Ok(())
+    Ok(fed.run)
 }
 
 // A piece that was read. It is fed before anything is written, so that where a write fails the lent buffers are as it left them.
-pub fn fed(
-    output: &mut impl Write,
-    run: Run,
-    text: &[u8],
-    frame: &mut [u8; 1486],
-    data: &mut [u8; 4096],
-    out: &mut [u8; ROOM],
-) -> io::Result<Run>
+pub fn fed(output: &mut impl Write, run: Run, text: &[u8], buffers: &mut Buffers) -> io::Result<Run>
     requires { Going run }
-    ensures ok { IfOk result (λ r. Shows (after (st_of run frame.old «data».old) (take 4096 text.now)) r frame.new «data».new out.old out.new) }
-    ensures err { OnErr result (Leaves (after (st_of run frame.old «data».old) (take 4096 text.now)) frame.new «data».new out.old out.new) }
+    ensures ok { IfOk result (λ r. Shows (after (st_in run buffers.old) (take 4096 text.now)) r buffers.new.frame buffers.new.«data» buffers.old.out buffers.new.out) }
+    ensures err { OnErr result (Leaves (after (st_in run buffers.old) (take 4096 text.now)) buffers.new.frame buffers.new.«data» buffers.old.out buffers.new.out) }
 {
-    let fed = order_run::feed(run, text, frame, data, out);
-    print(output, out, fed.printed)?;
-    Ok(fed.run)
+    let fed = order_run::feed(run, text, buffers);
+    print(output, fed, &buffers.out)
 }
 
 // The end of the input.
-pub fn ended(
-    output: &mut impl Write,
-    run: Run,
-    frame: &mut [u8; 1486],
-    data: &mut [u8; 4096],
-    out: &mut [u8; ROOM],
-) -> io::Result<Run>
+pub fn ended(output: &mut impl Write, run: Run, buffers: &mut Buffers) -> io::Result<Run>
     requires { Going run }
-    ensures ok { IfOk result (λ r. Shows (finished (st_of run frame.old «data».old)) r frame.new «data».new out.old out.new) }
-    ensures err { OnErr result (Leaves (finished (st_of run frame.old «data».old)) frame.new «data».new out.old out.new) }
+    ensures ok { IfOk result (λ r. Shows (finished (st_in run buffers.old)) r buffers.new.frame buffers.new.«data» buffers.old.out buffers.new.out) }
+    ensures err { OnErr result (Leaves (finished (st_in run buffers.old)) buffers.new.frame buffers.new.«data» buffers.old.out buffers.new.out) }
 {
-    let fed = order_run::finish(run, frame, data, out);
-    print(output, out, fed.printed)?;
-    Ok(fed.run)
+    let fed = order_run::finish(run, buffers);
+    print(output, fed, &buffers.out)
 }
 
 // Reads once, and does what came.
@@ -64,18 +45,16 @@ fn turn(
     output: &mut impl Write,
     run: Run,
     piece: &mut [u8],
-    frame: &mut [u8; 1486],
-    data: &mut [u8; 4096],
-    out: &mut [u8; ROOM],
+    buffers: &mut Buffers,
 ) -> io::Result<Run>
     requires { Going run }
     ensures { IfOk result Going }
 {
     let n = input.read(piece)?;
     if n == 0 {
-        return ended(output, run, frame, data, out);
+        return ended(output, run, buffers);
     }
-    fed(output, run, &piece[..n], frame, data, out)
+    fed(output, run, &piece[..n], buffers)
 }
 
 // A proved loop has to end, and nothing says that the input does. So the loop counts its turns, up to a number that no run
@@ -85,15 +64,13 @@ pub fn turns(
     input: &mut impl Read,
     output: &mut impl Write,
     piece: &mut [u8],
-    frame: &mut [u8; 1486],
-    data: &mut [u8; 4096],
-    out: &mut [u8; ROOM],
+    buffers: &mut Buffers,
 ) -> io::Result<Run>
     ensures { IfOk result Going }
 {
     let mut run = order_run::start();
     for _ in 0..u64::MAX {
-        run = turn(input, output, run, piece, frame, data, out)?;
+        run = turn(input, output, run, piece, buffers)?;
         if run.phase.is_over() {
             break;
         }

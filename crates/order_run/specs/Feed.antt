@@ -15,6 +15,7 @@ use Rattle.order_run.specs.declared.turns.Phase.{Phase}
 use Rattle.order_run.specs.declared.turns.Phase.TheVariants.{Entry}
 use Rattle.order_run.specs.declared.Run.{Run}
 use Rattle.order_run.specs.declared.Fed.{Fed}
+use Rattle.order_run.specs.declared.Buffers.{Buffers}
 
 -- a line so far: count bytes at the front of the frame, and the digit of one that is begun
 abbrev pub part : ℕ → Option ℕ → Part
@@ -148,6 +149,9 @@ pub record Starts (r : Run) : Type 0 where
 
 abbrev pub st_of : Run → List ℕ → List ℕ → St
 st_of r frame kept = st r.desk r.phase r.part frame kept
+
+abbrev pub st_in : Run → Buffers → St
+st_in r b = st_of r b.frame b.«data»
 
 abbrev pub run_of : St → Run
 run_of s = record { desk = s.desk; phase = s.phase; part = s.part }

@@ -6,14 +6,14 @@ pub mod digits;
 pub mod entry;
 pub mod turns;
 
-ghost use Rattle.std.specs.Prelude.{◌≡◌, ◌+◌, ◌*◌, ◌≤◌, length, take};
+ghost use Rattle.std.specs.Prelude.{◌≡◌, ◌+◌, ◌*◌, ◌≤◌, length, take, replicate};
 ghost use Rattle.desk.specs.Record.{Good};
 ghost use Rattle.order_run.specs.Turns.{Says};
-ghost use Rattle.order_run.specs.Feed.{st_of, st, after, line_ended, finished, end_said, end_kept, Begun, Table, Going, Starts, Feeds};
+ghost use Rattle.order_run.specs.Feed.{st_of, st_in, st, after, line_ended, finished, end_said, end_kept, Begun, Table, Going, Starts, Feeds};
 
 use desk::Desk;
 use desk::change::Change;
-use digits::{Part, digit_table, further, is_bad, is_begun, nothing, put, whole_bytes};
+use digits::{LONGEST, Part, digit_table, further, is_bad, is_begun, nothing, put, whole_bytes};
 use turns::{Phase, all_read, frame_read, is_quiet, last_number, print_answer};
 
 // The most characters of a piece, and the room for what a piece prints: a request for each of them, 33 characters, and the longest line
@@ -21,6 +21,26 @@ use turns::{Phase, all_read, frame_read, is_quiet, last_number, print_answer};
 pub const PIECE: usize = 4096;
 
 pub const ROOM: usize = 143363;
+
+// What a run works in: the line so far, the data buffer, and the room for what is printed.
+#[derive(Drop)]
+pub struct Buffers {
+    pub frame: [u8; LONGEST],
+    pub data: [u8; 4096],
+    pub out: [u8; ROOM],
+}
+
+impl Buffers {
+    pub fn new() -> Buffers
+        ensures { result.«data» ≡ replicate 4096 0 }
+    {
+        Buffers {
+            frame: [0; LONGEST],
+            data: [0; 4096],
+            out: [0; ROOM],
+        }
+    }
+}
 
 // Where a run stands between two pieces: the desk, the phase, and the line that has no end yet.
 #[derive(Clone, Copy)]
@@ -140,39 +160,40 @@ fn feed_piece(
 }
 
 // A piece of the input, its first 4,096 characters.
-pub fn feed(
-    run: Run,
-    text: &[u8],
-    frame: &mut [u8; 1486],
-    data: &mut [u8; 4096],
-    out: &mut [u8; ROOM],
-) -> Fed
+pub fn feed(run: Run, text: &[u8], buffers: &mut Buffers) -> Fed
     requires { Going run }
-    ensures { Feeds (after (st_of run frame.old «data».old) (take 4096 text.now)) 4096 result frame.new «data».new out.old out.new }
+    ensures { Feeds (after (st_in run buffers.old) (take 4096 text.now)) 4096 result buffers.new.frame buffers.new.«data» buffers.old.out buffers.new.out }
 {
     let end = PIECE.min(text.len());
     let table = digit_table();
-    feed_piece(run, &table, &text[..end], frame, data, out)
+    feed_piece(
+        run,
+        &table,
+        &text[..end],
+        &mut buffers.frame,
+        &mut buffers.data,
+        &mut buffers.out,
+    )
 }
 
 // A last line that lacks its line end gets it.
-fn last_line(run: Run, frame: &mut [u8; 1486], data: &mut [u8; 4096], out: &mut [u8; ROOM]) -> Fed
+fn last_line(run: Run, buffers: &mut Buffers) -> Fed
     requires { Going run }
-    ensures { Feeds (line_ended (st_of run frame.old «data».old)) 4096 result frame.new «data».new out.old out.new }
+    ensures { Feeds (line_ended (st_in run buffers.old)) 4096 result buffers.new.frame buffers.new.«data» buffers.old.out buffers.new.out }
 {
     let part = run.part;
     if is_begun(part) {
-        return feed(run, b"\n", frame, data, out);
+        return feed(run, b"\n", buffers);
     }
     Fed { run, printed: 0 }
 }
 
 // The end of the input.
-pub fn finish(run: Run, frame: &mut [u8; 1486], data: &mut [u8; 4096], out: &mut [u8; ROOM]) -> Fed
+pub fn finish(run: Run, buffers: &mut Buffers) -> Fed
     requires { Going run }
-    ensures { Feeds (finished (st_of run frame.old «data».old)) 4096 result frame.new «data».new out.old out.new }
+    ensures { Feeds (finished (st_in run buffers.old)) 4096 result buffers.new.frame buffers.new.«data» buffers.old.out buffers.new.out }
 {
-    let fed = last_line(run, frame, data, out);
+    let fed = last_line(run, buffers);
     let ended = fed.run;
     let printed = fed.printed;
     let desk = ended.desk;
@@ -180,7 +201,7 @@ pub fn finish(run: Run, frame: &mut [u8; 1486], data: &mut [u8; 4096], out: &mut
     if phase.is_over() {
         return fed;
     }
-    let turn = all_read(desk, phase, out, printed);
+    let turn = all_read(desk, phase, &mut buffers.out, printed);
     let last = turn.desk;
     let part = nothing();
     let run = Run {
