@@ -11,15 +11,14 @@ fn written(
     size: usize,
     buffer: &[u8],
 ) -> io::Result<()> {
-    show::number(rt, services::number_of(wrote) as u64, 2)?;
+    show::number(rt, u64::from(services::number_of(wrote)), 2)?;
     show::words(rt, b" ")?;
     show::first(rt, buffer, 16)?;
-    if size == 0 {
-        show::next(rt, 0, 2)?;
-    } else {
-        show::next(rt, wire::byte(buffer, size - 1) as u64, 2)?;
-    }
-    show::next(rt, wire::byte(buffer, size) as u64, 2)
+    let last = size
+        .checked_sub(1)
+        .map_or(0, |last| wire::byte(buffer, last));
+    show::next(rt, u64::from(last), 2)?;
+    show::next(rt, u64::from(wire::byte(buffer, size)), 2)
 }
 
 fn wrote(case: &[u8], data: &[u8], frame: &mut [u8]) -> Result<(), Refusal> {
@@ -47,12 +46,10 @@ fn wrote(case: &[u8], data: &[u8], frame: &mut [u8]) -> Result<(), Refusal> {
 pub(crate) fn frame(rt: &impl Print, case: &[u8], buffer: &mut [u8]) -> io::Result<()> {
     let head = head(case);
     let size = wire::word_at(case, head - 2) as usize;
-    if head <= case.len() {
-        if size <= buffer.len() {
-            fill(buffer);
-            let wrote = wrote(case, &case[head..], &mut buffer[0..size]);
-            written(rt, wrote, size, buffer)?;
-        }
+    if head <= case.len() && size <= buffer.len() {
+        fill(buffer);
+        let wrote = wrote(case, &case[head..], &mut buffer[0..size]);
+        written(rt, wrote, size, buffer)?;
     }
     Ok(())
 }
@@ -83,9 +80,6 @@ fn request(case: &[u8]) -> Request {
 }
 
 pub(crate) fn response(rt: &impl Print, case: &[u8]) -> io::Result<()> {
-    if services::validate_response(request(case), wire::word_at(case, 6), wire::byte(case, 8)) {
-        show::words(rt, b"01")
-    } else {
-        show::words(rt, b"00")
-    }
+    let answers = request(case).validate_response(wire::word_at(case, 6), wire::byte(case, 8));
+    show::number(rt, u64::from(answers), 2)
 }

@@ -15,21 +15,6 @@ unfolding cut_to
 returns-in-0 c =
     rw c.in-0.is (sym (mod-one _))
 
-pub returns-in-1 : goal.returns-in-1
-unfolding cut_to
-returns-in-1 c =
-    rw c.in-1.is
-
-pub returns-in-2 : goal.returns-in-2
-unfolding cut_to
-returns-in-2 c =
-    rw c.in-2.is
-
-pub returns-in-3 : goal.returns-in-3
-unfolding cut_to
-returns-in-3 c =
-    rw c.in-3.is
-
 pub returns-in_default : goal.returns-in_default
 unfolding cut_to
 returns-in_default c =
