@@ -1,21 +1,25 @@
 -- Laws of the record: the place of a seat, and the records that the changes make. Assumes nothing.
 use mathlib.Core.Path.{◌≡◌, refl, sym, ap, ◌∙◌}
-use mathlib.Core.Bool.{Bool, true, false}
+use mathlib.Core.Bool.{Bool, true, false, not, cond}
 use mathlib.Core.List.{List, [], ◌∷◌, ◌++◌, map, tail, append_assoc, map-append}
-use Prim.Native.Nat.{ℕ, zero, suc, ◌+◌, ◌-◌, ◌<◌, ◌≤◌}
+use Prim.Native.Nat.{ℕ, zero, suc, ◌+◌, ◌-◌, ◌<◌, ◌≤◌, min}
 use native.Mathlib.Omega.{arith}
 use native.Mathlib.Nat.{not-suc-le-zero, le_of_suc-le-suc}
-use borrow.Author.Tests.{lt-ltb, le-ltb, eq-eqb, ne_eqb}
+use borrow.Author.Tests.{lt-ltb, le-ltb, ltb-true, ltb-false}
 use lib.Dec.{eqb, ltb, leb-suc-suc}
-use lib.ListN.{length, take, drop, set, get_or, replicate, length-append, length-map, length-replicate, replicate-append-replicate}
+use lib.ListN.{length, take, drop, set, get_or, replicate, length-append, length-map, length-take, length-replicate, replicate-append-replicate}
 use lib.Seq.{set_at, set-append_left, append_snoc, take_at, drop-cons, drop-length, get_or-take, length-take-le}
+use Rattle.std.specs.Prelude.{Option, Some, None}
+use Rattle.std.specs.Option.{is_some}
+use Rattle.std.specs.List.{position, position_or_len}
 use Rattle.wire.specs.Words.{pick, either}
+use Rattle.wire.proofs.Cases.{by}
 use Rattle.line.specs.Line.{Line, seated, vacate}
 use Rattle.line.proofs.Room.{line_room}
 use Rattle.transfer.specs.declared.Transfer.{Transfer}
 use Rattle.desk.specs.declared.record.Slot.{Slot}
 use Rattle.desk.specs.declared.Desk.{Desk}
-use Rattle.desk.specs.Record.{Queue, lined, pair_of, slot_of, blank_of, view_of, desk_of, Good, place_in}
+use Rattle.desk.specs.Record.{Queue, lined, pair_of, slot_of, blank_of, view_of, desk_of, Good, is_at, place_in, place_of}
 use Rattle.desk.specs.Change.{moved}
 use Rattle.desk.proofs.Moved.{gone, length_moved, moved_front, moved_all, get_d_map}
 
@@ -36,19 +40,6 @@ joined_by d s t = held (set d.line d.waiting (slot_of (s, t))) (d.waiting + 1) d
 
 -- ---- the place of a seat in a line
 
-pub place_hit : (s : ℕ) (l : Line Transfer) (i : ℕ) (z : ℕ × Transfer) → i < length l → s ≡ (get_or l i z).0 → place_in s (drop i l) ≡ 0
-unfolding place_in
-place_hit s l i z h e = rw (drop-cons l i z h, eq-eqb _ _ e)
-
-pub place_miss : (s : ℕ) (l : Line Transfer) (i : ℕ) (z : ℕ × Transfer) → i < length l → (s ≡ (get_or l i z).0 → ⊥)
-    → place_in s (drop i l) ≡ suc (place_in s (drop (suc i) l))
-unfolding place_in
-place_miss s l i z h e = rw (drop-cons l i z h, ne_eqb _ _ e)
-
-pub place_none : (s : ℕ) (l : Line Transfer) → place_in s (drop (length l) l) ≡ 0
-unfolding place_in
-place_none s l = rw (drop-length l)
-
 place_seated : (s : ℕ) (l : Line Transfer) → ltb (place_in s l) (length l) ≡ seated s l
 unfolding place_in seated
 place_seated s [] = refl
@@ -58,11 +49,63 @@ place_seated s (q ∷ l) = go (eqb s q.0) (place_seated s l)
     go true h = lt-ltb 0 (suc (length l)) (omega arith)
     go false h = leb-suc-suc (suc (place_in s l)) (length l) ∙ h
 
-pub in_line : (s : ℕ) (l : Line Transfer) → place_in s l < length l → seated s l ≡ true
-in_line s l h = sym (place_seated s l) ∙ lt-ltb _ _ h
+-- the seat at a place, and no seat
+pub record Placed (s : ℕ) (l : Line Transfer) (n : ℕ) : Type 0 where
+  pub taken : seated s l ≡ true
+  pub at : n ≡ place_in s l
+  pub within : n < length l
 
-pub not_in_line : (s : ℕ) (l : Line Transfer) → length l ≤ place_in s l → seated s l ≡ false
-not_in_line s l h = sym (place_seated s l) ∙ le-ltb _ _ h
+pub is_some_place_of : (s : ℕ) (l : Line Transfer) → is_some (place_of s l) ≡ seated s l
+is_some_place_of s l = go (seated s l)
+  where
+    go : (b : Bool) → is_some (pick b (Some (place_in s l)) None) ≡ b
+    go true = refl
+    go false = refl
+
+pub placed : (s : ℕ) (l : Line Transfer) (n : ℕ) → Some n ≡ place_of s l → Placed s l n
+placed s l n e = go (seated s l) refl e
+  where
+    go : (b : Bool) → seated s l ≡ b → Some n ≡ pick b (Some (place_in s l)) None → Placed s l n
+    go true t h =
+        let at : n ≡ place_in s l = cc in
+        let w = ltb-true (place_in s l) (length l) (place_seated s l ∙ t) in
+        record { taken = t; at = at; within = omega arith }
+    go false t h = absurd cc
+
+pub unplaced : (s : ℕ) (l : Line Transfer) → None ≡ place_of s l → seated s l ≡ false
+unplaced s l e = sym (is_some_place_of s l) ∙ ap is_some (sym e)
+
+-- the first of all slots that is the seat's, where it is in the line
+abbrev pub in_line : ℕ → Option ℕ → Option ℕ
+in_line n None = None
+in_line n (Some i) = pick (ltb i n) (Some i) None
+
+first_of : (s : ℕ) (l : List Slot) (n : ℕ) → place_in s (map pair_of (take n l)) ≡ min n (position_or_len (is_at s) l)
+unfolding place_in
+first_of s [] zero = refl
+first_of s [] (suc n) = omega arith
+first_of s (x ∷ l) zero = omega arith
+first_of s (x ∷ l) (suc n) = go (is_at s x) (place_in s (map pair_of (take n l))) (position_or_len (is_at s) l) (first_of s l n)
+  where
+    go : (b : Bool) (r m : ℕ) → r ≡ min n m → pick b 0 (suc r) ≡ min (suc n) (cond (not b) (1 + m) 0)
+    go true r m h = omega arith
+    go false r m h = omega arith
+
+found_below : (n m p : ℕ) → in_line n (cond (ltb p m) (Some p) None) ≡ pick (ltb (min n p) (min n m)) (Some (min n p)) None
+found_below n m p =
+    by (ltb p m)
+    (λ e. by (ltb p n)
+    (λ f. let h = ltb-true p m e in let g = ltb-true p n f in
+    let q : min n p ≡ p = omega arith in
+    rw (e, f, q, lt-ltb p (min n m) (omega arith)) refl)
+    (λ f. let g = ltb-false p n f in
+    rw (e, f, le-ltb (min n p) (min n m) (omega arith)) refl))
+    (λ e. let h = ltb-false p m e in rw (e, le-ltb (min n p) (min n m) (omega arith)) refl)
+
+pub place_in_line : (s : ℕ) (l : List Slot) (n : ℕ) → in_line n (position (is_at s) l) ≡ place_of s (map pair_of (take n l))
+place_in_line s l n =
+    let long : length (map pair_of (take n l)) ≡ min n (length l) = length-map (take n l) pair_of ∙ length-take n l in
+    rw (← place_seated s (map pair_of (take n l)), first_of s l n, long) (found_below n (length l) (position_or_len (is_at s) l))
 
 pub gone_place : (s : ℕ) (l : Line Transfer) → gone (place_in s l) l ≡ vacate s l
 unfolding place_in gone vacate

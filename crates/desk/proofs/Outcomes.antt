@@ -8,6 +8,7 @@ use native.Mathlib.Omega.{arith}
 use borrow.Author.Tests.{eq-eqb}
 use lib.Dec.{ltb}
 use lib.ListN.{length}
+use Rattle.std.specs.Prelude.{Ok}
 use Rattle.wire.specs.Words.{pick}
 use Rattle.line.specs.Machine.{Ruling, refuse, accept, and_then}
 use Rattle.line.specs.Line.{Line, seated, head, place}
@@ -37,7 +38,7 @@ module _ (d : Desk) (g : Good d) (s : ℕ) where
   q = view_of d
 
   pub enters : (o : Order) (t : Transfer) → ltb 7 s ≡ false → seated s q.line ≡ false → length q.line < 8 → begins_with o ≡ accept t
-      → Changes d (enter s o) (joins_by d s t)
+      → Changes d (enter s o) (Ok (joins_by d s t))
   unfolding answer_for
   enters o t h f r e =
       let w = enter_01 coe_machine q s o t h f e in
@@ -45,7 +46,7 @@ module _ (d : Desk) (g : Good d) (s : ℕ) where
       (ap (called_at (plain_of 0x01)) (good_join d g s t r) ∙ ap called_of (sym w))
 
   pub leaves : ltb 7 s ≡ false → seated s q.line ≡ true → place_in s q.line < d.waiting
-      → Changes d (leave s) (closes_at (plain_of 0x03) d (place_in s q.line))
+      → Changes d (leave s) (Ok (closes_at (plain_of 0x03) d (place_in s q.line)))
   unfolding answer_for seat_of
   leaves h f r =
       let n = place_in s q.line in
@@ -89,7 +90,7 @@ module _ (d : Desk) (g : Good d) (s : ℕ) where
         unfolding settled and_then
         sent_step = send_by (accept (f, u)) e
 
-        pub sends : Changes d (send s b) (heads_by (plain_of 0x02) d s u (following d.counter))
+        pub sends : Changes d (send s b) (Ok (heads_by (plain_of 0x02) d s u (following d.counter)))
         unfolding answer_for desk_of view_of
         sends =
             let c = following d.counter in
@@ -131,12 +132,12 @@ module _ (d : Desk) (g : Good d) (s : ℕ) where
         unfolding lent_after
         data_received = ap (λ (z : Queue × Outcome coe_machine). lent_after c z.1) (sym received_step)
 
-        pub moves : Changes d (receive s (p, c)) (moves_on a d s (next_with o))
+        pub moves : Changes d (receive s (p, c)) (Ok (moves_on a d s (next_with o)))
         unfolding answer_for place seat_of
         moves = go o received_step
           where
             go : (o : Option Transfer) → step coe_machine q (receive s (p, c)) ≡ (lined (place s o ++ tail q.line) q, received (a, f))
-                → Changes d (receive s (p, c)) (moves_on a d s (next_with o))
+                → Changes d (receive s (p, c)) (Ok (moves_on a d s (next_with o)))
             go none e = is_over_lem d g (receive s (p, c)) a 0 (sym front) waits (a, f) (ap outcome e) (ap (called_at a) (good_end d g waits) ∙ ap called_of (sym e))
             go (some u) e =
                 goes_on d g (receive s (p, c)) s u a d.counter (a, f) (ap outcome e) (ap (called_at a) (good_head d g s u waits) ∙ ap called_of (sym e))

@@ -1,16 +1,12 @@
 -- What the desk's calls give back: each is one step of line's desk with the CoE machine, told in numbers and bytes. Assumes nothing.
 use Rattle.std.specs.Prelude.{◌≡◌, List, ℕ}
-use Rattle.line.specs.Machine.{Ruling, refuse, accept}
 use Rattle.line.specs.Desk.{Call, Outcome, refused, entered, sent, received, left, step}
 use Rattle.judge.specs.Answers.{plain_of}
 use Rattle.judge.specs.declared.Answer.{Answer}
-use Rattle.transfer.specs.declared.Transfer.{Transfer}
 use Rattle.transfer.specs.Coe.{coe_machine}
 use Rattle.desk.specs.Record.{Queue, view_of, desk_of, empty_at, Good}
 use Rattle.desk.specs.declared.Called.{Called}
 use Rattle.desk.specs.declared.Desk.{Desk}
-use Rattle.desk.specs.declared.record.Turn.{Turn}
-use Rattle.desk.specs.declared.record.Turn.TheVariants.{Head, Refused}
 
 -- "Numbers the desk gives back", with their values
 unfoldable pub answer_for : Outcome coe_machine → Answer
@@ -47,13 +43,3 @@ pub record GivesLent (d : Desk) (k : Call coe_machine) (r : Called) (before afte
   pub told : r ≡ called_of (step coe_machine (view_of d) k)
   pub good : Good r.desk
   pub lent : after ≡ lent_after before (step coe_machine (view_of d) k).1
-
--- ---- what the private functions do
-
-abbrev pub turn_of : Ruling Transfer → Turn
-turn_of (refuse n) = Refused n
-turn_of (accept t) = Head t
-
-abbrev pub refusal_of : Turn → ℕ
-refusal_of (Head t) = 0
-refusal_of (Refused k) = k

@@ -1,7 +1,7 @@
 -- The desk's record: what it holds, and the record that holds it. The desk itself is line's, with the CoE machine. Assumes nothing.
-use Rattle.std.specs.Prelude.{◌≡◌, true, [], ◌∷◌, ◌++◌, map, ℕ, suc, ◌-◌, eqb, ltb, length, take, replicate}
+use Rattle.std.specs.Prelude.{◌≡◌, Bool, true, [], ◌∷◌, ◌++◌, map, ℕ, suc, ◌-◌, eqb, ltb, length, take, replicate, Option, Some, None}
 use Rattle.wire.specs.Words.{pick, within}
-use Rattle.line.specs.Line.{Line}
+use Rattle.line.specs.Line.{Line, seated}
 use Rattle.line.specs.Desk.{first_counter, pass_at, fresh_at}
 use Rattle.line.specs.Desk as line
 use Rattle.line.specs.Sound.{Sound}
@@ -74,3 +74,11 @@ empty_at c = desk_of (fresh_at coe_machine (pass_at c))
 unfoldable pub place_in : ℕ → Line Transfer → ℕ
 place_in s [] = 0
 place_in s (q ∷ l) = pick (eqb s q.0) 0 (suc (place_in s l))
+
+-- the same, where the seat is in it
+abbrev pub place_of : ℕ → Line Transfer → Option ℕ
+place_of s l = pick (seated s l) (Some (place_in s l)) None
+
+-- whether a slot is a seat's, or a blank that has its number
+abbrev pub is_at : ℕ → Slot → Bool
+is_at s x = eqb s x.seat

@@ -3,15 +3,17 @@
 // slots, in the module change what a change is.
 #![tactic(auto)]
 
+ghost use Rattle.std.specs.Prelude.{◌≡◌, IfOk};
 ghost use Rattle.line.specs.Desk.{first_counter, Call};
 ghost use Rattle.desk.specs.Record.{Good, counter_from};
 ghost use Rattle.desk.specs.Calls.{Fresh, Gives, GivesLent};
-ghost use Rattle.desk.specs.Change.{Changes, ChangesLent};
+ghost use Rattle.desk.specs.Change.{Within, called_by, Changes, ChangesLent};
 
-use change::{Change, apart, changed, closes, heads, joins, moves_on, stays};
+use change::Change;
 use judge::Answer;
-use record::{Slot, Turn, empty, place, refusal_of, whose_turn};
+use record::Slot;
 use transfer::Order;
+use wire::refusal::Refusal;
 
 pub mod change;
 pub mod record;
@@ -42,123 +44,122 @@ impl Desk {
         ensures { Fresh (counter_from counter) result }
     {
         if counter < 1 {
-            return empty(FIRST_COUNTER);
+            return Desk::empty(FIRST_COUNTER);
         }
         if 7 < counter {
-            return empty(FIRST_COUNTER);
+            return Desk::empty(FIRST_COUNTER);
         }
-        empty(counter)
+        Desk::empty(counter)
     }
 
     pub fn fresh() -> Desk
         ensures { Fresh first_counter result }
     {
-        empty(FIRST_COUNTER)
+        Desk::empty(FIRST_COUNTER)
     }
 
     pub fn enter(self, seat: u8, order: Order) -> Called
         requires { Good self }
         ensures { Gives self (Call.enter seat order) result }
     {
-        changed(self, self.entering(seat, order))
+        self.called(self.entering(seat, order))
     }
 
     pub fn send(self, seat: u8, frame: &mut [u8]) -> Called
         requires { Good self }
         ensures { GivesLent self (Call.send seat frame.old) result frame.old frame.new }
     {
-        let change = Desk::sending(self, seat, frame);
-        changed(self, change)
+        let decided = self.sending(seat, frame);
+        self.called(decided)
     }
 
     pub fn receive(self, seat: u8, reply: &[u8], buffer: &mut [u8]) -> Called
         requires { Good self }
         ensures { GivesLent self (Call.receive seat (reply.now, buffer.old)) result buffer.old buffer.new }
     {
-        let change = Desk::receiving(self, seat, reply, buffer);
-        changed(self, change)
+        let decided = self.receiving(seat, reply, buffer);
+        self.called(decided)
     }
 
     pub fn leave(self, seat: u8) -> Called
         requires { Good self }
         ensures { Gives self (Call.leave seat) result }
     {
-        changed(self, self.leaving(seat))
+        self.called(self.leaving(seat))
     }
 
     // What `enter` changes.
-    pub fn entering(self, seat: u8, order: Order) -> Change
+    pub fn entering(self, seat: u8, order: Order) -> Result<Change, Refusal>
         requires { Good self }
         ensures { Changes self (Call.enter seat order) result }
     {
         if 7 < seat {
-            return stays(0x10);
+            return Err(Refusal::NoSuchSeat);
         }
-        let n = self.waiting;
-        if place(self, seat) < n {
-            return stays(0x11);
+        if self.place(seat).is_some() {
+            return Err(Refusal::SeatTaken);
         }
-        match order.begin() {
-            Err(refusal) => stays(refusal.number()),
-            Ok(t) => joins(self, seat, t),
-        }
+        let transfer = order.begin()?;
+        Ok(self.joins(seat, transfer))
     }
 
     // What `send` changes besides the frame.
-    pub fn sending(self, seat: u8, frame: &mut [u8]) -> Change
+    pub fn sending(self, seat: u8, frame: &mut [u8]) -> Result<Change, Refusal>
         requires { Good self }
         ensures { ChangesLent self (Call.send seat frame.old) result frame.old frame.new }
     {
-        let whose = whose_turn(self, seat);
-        let Turn::Head(t) = whose else {
-            return stays(refusal_of(whose));
-        };
-        let counter = self.counter;
-        match t.send(counter, frame) {
-            Err(refusal) => stays(refusal.number()),
-            Ok(u) => {
-                let answer = judge::plain(0x02);
-                heads(answer, self, seat, u, line::following(counter))
-            }
-        }
+        let head = self.head(seat)?;
+        let sent = head.send(self.counter, frame)?;
+        Ok(self.heads(
+            judge::plain(0x02),
+            seat,
+            sent,
+            line::following(self.counter),
+        ))
     }
 
     // What `receive` changes besides the data buffer.
-    pub fn receiving(self, seat: u8, reply: &[u8], buffer: &mut [u8]) -> Change
+    pub fn receiving(self, seat: u8, reply: &[u8], buffer: &mut [u8]) -> Result<Change, Refusal>
         requires { Good self }
         ensures { ChangesLent self (Call.receive seat (reply.now, buffer.old)) result buffer.old buffer.new }
     {
-        let whose = whose_turn(self, seat);
-        let Turn::Head(t) = whose else {
-            return stays(refusal_of(whose));
-        };
-        match t.receive(reply, buffer) {
-            Err(refusal) => stays(refusal.number()),
-            Ok((answer, next)) => moves_on(answer, self, seat, next),
-        }
+        let head = self.head(seat)?;
+        let (answer, next) = head.receive(reply, buffer)?;
+        Ok(self.moves_on(answer, seat, next))
     }
 
     // What `leave` changes.
-    pub fn leaving(self, seat: u8) -> Change
-        requires { Good self }
-        ensures { Changes self (Call.leave seat) result }
-    {
-        apart(self.vacating(seat))
-    }
-
-    fn vacating(self, seat: u8) -> Change
+    pub fn leaving(self, seat: u8) -> Result<Change, Refusal>
         requires { Good self }
         ensures { Changes self (Call.leave seat) result }
     {
         if 7 < seat {
-            return stays(0x10);
+            return Err(Refusal::NoSuchSeat);
         }
-        let n = self.waiting;
-        let at = place(self, seat);
-        if n <= at {
-            return stays(0x12);
+        let Some(at) = self.place(seat) else {
+            return Err(Refusal::SeatEmpty);
+        };
+        Ok(self.closes(judge::plain(0x03), at))
+    }
+
+    // `called_by` where the record lies: a refusal leaves it as it is.
+    pub fn settle(&mut self, decided: Result<Change, Refusal>) -> Answer
+        requires { IfOk decided Within }
+        ensures { (result ≡ (called_by decided self.old).answer) × (self.new ≡ (called_by decided self.old).desk) }
+    {
+        match decided {
+            Ok(change) => change.apply(self),
+            Err(refusal) => judge::plain(refusal.number()),
         }
-        let answer = judge::plain(0x03);
-        closes(answer, self, at)
+    }
+
+    // `called_by` by value.
+    pub fn called(self, decided: Result<Change, Refusal>) -> Called
+        requires { IfOk decided Within }
+        ensures { result ≡ called_by decided self }
+    {
+        let mut desk = self;
+        let answer = desk.settle(decided);
+        Called { answer, desk }
     }
 }

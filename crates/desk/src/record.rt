@@ -1,11 +1,13 @@
 // The record's slots: what an empty one holds, and whose slot is whose.
-ghost use Rattle.std.specs.Prelude.{◌≡◌, ◌≤◌};
+ghost use Rattle.std.specs.Prelude.{◌≡◌};
+ghost use Rattle.std.specs.List.{position};
 ghost use Rattle.line.specs.Line.{head};
-ghost use Rattle.desk.specs.Record.{Good, view_of, empty_at, blank_of, place_in};
-ghost use Rattle.desk.specs.Calls.{turn_of, refusal_of};
+ghost use Rattle.transfer.specs.Coe.{ruling_of};
+ghost use Rattle.desk.specs.Record.{Good, view_of, empty_at, blank_of, is_at, place_of};
 
 use crate::Desk;
 use transfer::{Order, Transfer};
+use wire::refusal::Refusal;
 
 // A seat and its transfer.
 #[repr(C)]
@@ -13,22 +15,6 @@ use transfer::{Order, Transfer};
 pub struct Slot {
     pub seat: u8,
     pub transfer: Transfer,
-}
-
-// Whose turn it is: the head's transfer, or the number of the refusal.
-#[derive(Clone, Copy)]
-pub enum Turn {
-    Head(Transfer),
-    Refused(u8),
-}
-
-pub(crate) fn refusal_of(whose: Turn) -> u8
-    ensures { result ≡ refusal_of whose }
-{
-    match whose {
-        Turn::Refused(number) => number,
-        Turn::Head(_) => 0,
-    }
 }
 
 // Not all zeros: those the compiler would first write to memory of its own.
@@ -53,55 +39,47 @@ pub(crate) fn blank() -> Slot
     Slot { seat: 0, transfer }
 }
 
-pub(crate) fn empty(counter: u8) -> Desk
-    ensures { result ≡ empty_at counter }
-{
-    let b = blank();
-    Desk {
-        line: [b; 8],
-        waiting: 0,
-        counter,
-    }
-}
-
-// The place of a seat in the line, 0 at the head; `waiting` where it is not there. The blanks behind the line are looked at too, so that
-// a slot takes one test, and the bound is the constant 8: the compiler then writes the tests out, and copies the record once less.
-pub(crate) fn place(desk: Desk, seat: u8) -> usize
-    requires { desk.waiting ≤ 8 }
-    ensures { result ≡ place_in seat (view_of desk).line }
-{
-    let n = desk.waiting;
-    let mut i: usize = 0;
-    while i < 8 {
-        let s = desk.line[i];
-        if seat == s.seat {
-            if i < n {
-                return i;
-            }
-            return n;
+impl Desk {
+    pub(crate) fn empty(counter: u8) -> Desk
+        ensures { result ≡ empty_at counter }
+    {
+        Desk {
+            line: [blank(); 8],
+            waiting: 0,
+            counter,
         }
-        i += 1;
     }
-    n
-}
 
-// 10, 12, 13.
-pub(crate) fn whose_turn(desk: Desk, seat: u8) -> Turn
-    requires { Good desk }
-    ensures { result ≡ turn_of (head seat (view_of desk).line) }
-{
-    if 7 < seat {
-        return Turn::Refused(0x10);
+    // The blanks behind the line are looked at too, so that a slot takes one test, and the bound is the constant 8: the compiler then
+    // writes the tests out, and copies the record once less.
+    fn first_slot(&self, seat: u8) -> Option<usize>
+        ensures { result ≡ position (is_at seat) self.now.line }
+    {
+        self.line.iter().position(|slot| seat == slot.seat)
     }
-    let n = desk.waiting;
-    let at = place(desk, seat);
-    if n <= at {
-        return Turn::Refused(0x12);
+
+    // The place of a seat in the line, 0 at the head.
+    pub(crate) fn place(self, seat: u8) -> Option<usize>
+        ensures { result ≡ place_of seat (view_of self).line }
+    {
+        match self.first_slot(seat) {
+            Some(at) if at < self.waiting => Some(at),
+            _ => None,
+        }
     }
-    if 0 < at {
-        return Turn::Refused(0x13);
+
+    // The transfer at the head, where it is the seat's: 10, 12, 13.
+    pub(crate) fn head(self, seat: u8) -> Result<Transfer, Refusal>
+        requires { Good self }
+        ensures { ruling_of result ≡ head seat (view_of self).line }
+    {
+        if 7 < seat {
+            return Err(Refusal::NoSuchSeat);
+        }
+        match self.place(seat) {
+            None => Err(Refusal::SeatEmpty),
+            Some(0) => Ok(self.line[0].transfer),
+            Some(_) => Err(Refusal::NotAtHead),
+        }
     }
-    let s = desk.line[0];
-    let transfer = s.transfer;
-    Turn::Head(transfer)
 }

@@ -2,11 +2,10 @@
 // change in the record.
 #![tactic(auto)]
 
-ghost use Rattle.std.specs.Prelude.{◌≡◌};
 ghost use Rattle.line.specs.Desk.{first_counter, Call};
 ghost use Rattle.desk.specs.Record.{Good};
 ghost use Rattle.desk.specs.Calls.{Fresh, Gives, GivesLent};
-ghost use Rattle.desk.specs.Change.{Within, Changes, called_by};
+ghost use Rattle.desk.specs.Change.{Changes};
 ghost use Rattle.lent.specs.Order.{order_from};
 ghost use Rattle.lent.specs.Found.{found};
 
@@ -14,31 +13,9 @@ use desk::Desk;
 use desk::change::Change;
 use judge::Answer;
 use order::order_from;
+use wire::refusal::Refusal;
 
 pub mod order;
-
-// `called_by` where the record lies.
-fn apply(desk: &mut Desk, change: Change) -> Answer
-    requires { Within change }
-    ensures { found result desk.new ≡ called_by change desk.old }
-{
-    if change.kept {
-        return change.answer;
-    }
-    let last = change.last;
-    let mut i = change.first;
-    while i < last {
-        let t = desk.line[i + 1];
-        desk.line[i] = t;
-        i += 1;
-    }
-    let at = change.at;
-    let slot = change.slot;
-    desk.line[at] = slot;
-    desk.waiting = change.waiting;
-    desk.counter = change.counter;
-    change.answer
-}
 
 fn entering(
     desk: Desk,
@@ -48,7 +25,7 @@ fn entering(
     sub: u8,
     bytes: &[u8],
     budget: u16,
-) -> Change
+) -> Result<Change, Refusal>
     requires { Good desk }
     ensures { Changes desk (Call.enter seat (order_from kind index sub bytes.now budget)) result }
 {
@@ -68,32 +45,32 @@ pub fn enter(
     requires { Good desk.old }
     ensures { Gives desk.old (Call.enter seat (order_from kind index sub bytes.now budget)) (found result desk.new) }
 {
-    let change = entering(*desk, seat, kind, index, sub, bytes, budget);
-    apply(desk, change)
+    let decided = entering(*desk, seat, kind, index, sub, bytes, budget);
+    desk.settle(decided)
 }
 
 pub fn send(desk: &mut Desk, seat: u8, frame: &mut [u8]) -> Answer
     requires { Good desk.old }
     ensures { GivesLent desk.old (Call.send seat frame.old) (found result desk.new) frame.old frame.new }
 {
-    let change = Desk::sending(*desk, seat, frame);
-    apply(desk, change)
+    let decided = Desk::sending(*desk, seat, frame);
+    desk.settle(decided)
 }
 
 pub fn receive(desk: &mut Desk, seat: u8, reply: &[u8], buffer: &mut [u8]) -> Answer
     requires { Good desk.old }
     ensures { GivesLent desk.old (Call.receive seat (reply.now, buffer.old)) (found result desk.new) buffer.old buffer.new }
 {
-    let change = Desk::receiving(*desk, seat, reply, buffer);
-    apply(desk, change)
+    let decided = Desk::receiving(*desk, seat, reply, buffer);
+    desk.settle(decided)
 }
 
 pub fn leave(desk: &mut Desk, seat: u8) -> Answer
     requires { Good desk.old }
     ensures { Gives desk.old (Call.leave seat) (found result desk.new) }
 {
-    let change = Desk::leaving(*desk, seat);
-    apply(desk, change)
+    let decided = Desk::leaving(*desk, seat);
+    desk.settle(decided)
 }
 
 // Whatever stood in the record, it is a fresh desk.

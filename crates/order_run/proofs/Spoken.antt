@@ -5,6 +5,7 @@ use mathlib.Core.Bool.{true, false, true≢false, false≢true}
 use mathlib.Core.List.{List, [], ◌∷◌, ◌++◌}
 use native.Mathlib.Omega.{arith}
 use lib.Dec.{eqb}
+use Rattle.std.specs.Prelude.{Ok}
 use lib.ListN.{length, set, take, replicate, length-take}
 use borrow.Author.Tests.{eq-eqb, ne_eqb, eqb-true, leb-true}
 use Rattle.wire.specs.Store.{laid}
@@ -136,27 +137,24 @@ module _ {x r : Called} (e : r ≡ x) where
 
 -- ---- a reply that is still due, where one slot is all that changes: the record with that slot
 
-quiet_is : (c : Change) → quiet c ≡ true → (c.kept ≡ false) × (c.last ≤ c.first) × (c.answer.number ≡ 2)
+quiet_is : (c : Change) → quiet c ≡ true → (c.last ≤ c.first) × (c.answer.number ≡ 2)
 quiet_is c q =
     by (eqb c.answer.number 2)
-    (λ n. by c.kept
-    (λ k. absurd (false≢true (rw (n, k) at q)))
-    (λ k. (k, leb-true _ _ (rw (n, k) at q), eqb-true _ _ n)))
+    (λ n. (leb-true _ _ (rw n at q), eqb-true _ _ n))
     (λ n. absurd (false≢true (rw n at q)))
 
 slot_set : (d : Desk) (c : Change) → Within c → quiet c ≡ true
     → record { line = set d.line c.at c.slot; waiting = c.waiting; counter = c.counter } ≡ changed_by c d
 slot_set d c W q =
-    let i = quiet_is c q in
-    let f : c.last ≡ c.first = omega (arith, W.ordered, i.1) in
+    let f : c.last ≡ c.first = omega (arith, W.ordered, (quiet_is c q).0) in
     let m : d.line ≡ moved d.line c.first c.last = sym (ap (moved d.line c.first) f ∙ moved_none d.line c.first) in
-    ap (λ (l : List Slot). record { line = set l c.at c.slot; waiting = c.waiting; counter = c.counter }) m ∙ sym (rw i.0)
+    ap (λ (l : List Slot). record { line = set l c.at c.slot; waiting = c.waiting; counter = c.counter }) m
 
-pub quiet_turned : {d : Desk} {x : Said} {c : Change} {k : List ℕ} (o : List ℕ) (at : ℕ) → Tells d x c k → quiet c ≡ true → at ≤ length o
+pub quiet_turned : {d : Desk} {x : Said} {c : Change} {k : List ℕ} (o : List ℕ) (at : ℕ) → Tells d x (Ok c) k → quiet c ≡ true → at ≤ length o
     → Turned x at (turn (record { line = set d.line c.at c.slot; waiting = c.waiting; counter = c.counter }) Reply at) o o
 quiet_turned {d} {x} {c} {k} o at S q h =
-    let n = (quiet_is c q).2 in
-    let s = number_2 (called_by c d) k (λ e. omega (arith, n, e)) (λ e. omega (arith, n, e)) n ∙ S.told in
+    let n = (quiet_is c q).1 in
+    let s = number_2 (called_by (Ok c) d) k (λ e. omega (arith, n, e)) (λ e. omega (arith, n, e)) n ∙ S.told in
     turned_as s
     (subst (λ (e : Desk). Turned (quietly (changed_by c d)) at (turn e Reply at) o o) (sym (slot_set d c S.within q)) (still_turned (changed_by c d) o at S.good h))
 

@@ -1,13 +1,14 @@
 -- What a line of an order file does and prints, by the desk's calls at seat 0. Document 01, "The order program": "It uses seat 0, a 16-byte
 -- frame buffer, a data buffer of 4,096 bytes". Assumes nothing.
-use Rattle.std.specs.Prelude.{ℕ, ◌+◌, ◌≤◌, ◌≡◌, Bool, true, false, List, [], ◌∷◌, ◌++◌, eqb, leb, length, take, replicate, Option, Some, None}
+use Rattle.std.specs.Prelude.{ℕ, ◌+◌, ◌≤◌, ◌≡◌, Bool, true, false, List, [], ◌∷◌, ◌++◌, eqb, leb, length, take, replicate, Option, Some, None, Result, IfOk}
 use Rattle.wire.specs.Words.{pick}
 use Rattle.wire.specs.Store.{laid}
+use Rattle.wire.specs.declared.refusal.Refusal.{Refusal}
 use Rattle.line.specs.Desk.{Call, enter, send, receive, leave, step}
 use Rattle.transfer.specs.Coe.{coe_machine}
 use Rattle.desk.specs.Record.{view_of, Good}
 use Rattle.desk.specs.Calls.{called_of, lent_after}
-use Rattle.desk.specs.Change.{changed_by, called_by, Within}
+use Rattle.desk.specs.Change.{called_by, Within}
 use Rattle.desk.specs.declared.Desk.{Desk}
 use Rattle.desk.specs.declared.Called.{Called}
 use Rattle.desk.specs.declared.change.Change.{Change}
@@ -112,24 +113,24 @@ after_all phase d =
 
 -- ---- what the functions promise that read a line
 
--- a change at the desk d says x, where the data buffer then holds kept
-pub record Tells (d : Desk) (x : Said) (c : Change) (kept : List ℕ) : Type 0 where
+-- a call at the desk d says x, where the data buffer then holds kept
+pub record Tells (d : Desk) (x : Said) (c : Result Change Refusal) (kept : List ℕ) : Type 0 where
   pub told : after_receive (called_by c d) kept ≡ x
-  pub good : Good (changed_by c d)
-  pub within : Within c
+  pub good : Good (called_by c d).desk
+  pub within : IfOk c Within
 
 -- and of a line: the change that it makes at the desk d, or none of a bad one, which says ff
-abbrev pub Says : Desk → Said → Option Change → List ℕ → Type 0
+abbrev pub Says : Desk → Said → Option (Result Change Refusal) → List ℕ → Type 0
 Says d x (Some c) kept = Tells d x c kept
 Says d x None kept = failed d ≡ x
 
 -- and whatever the data buffer holds
-abbrev pub Enters : Desk → Said → Option Change → Type 0
+abbrev pub Enters : Desk → Said → Option (Result Change Refusal) → Type 0
 Enters d x c = (kept : List ℕ) → Says d x c kept
 
 -- a reply is still due, and one slot is all that changes
 abbrev pub quiet : Change → Bool
-quiet c = pick (eqb c.answer.number 0x02) (pick c.kept false (leb c.last c.first)) false
+quiet c = pick (eqb c.answer.number 0x02) (leb c.last c.first) false
 
 -- ---- what the functions promise that print from a place on
 

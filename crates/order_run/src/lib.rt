@@ -15,6 +15,7 @@ use desk::Desk;
 use desk::change::Change;
 use digits::{LONGEST, Part, digit_table, further, is_bad, is_begun, nothing, put, whole_bytes};
 use turns::{Phase, all_read, frame_read, is_quiet, last_number, print_answer};
+use wire::refusal::Refusal;
 
 // The most characters of a piece, and the room for what a piece prints: a request for each of them, 33 characters, and the longest line
 // that ends a run, 00 and 4,096 bytes.
@@ -69,7 +70,13 @@ pub fn start() -> Run
     }
 }
 
-fn line_end(desk: Desk, phase: Phase, part: Part, frame: &[u8], data: &mut [u8]) -> Option<Change>
+fn line_end(
+    desk: Desk,
+    phase: Phase,
+    part: Part,
+    frame: &[u8],
+    data: &mut [u8],
+) -> Option<Result<Change, Refusal>>
     requires good { Good desk }
     requires begun { Begun part }
     requires frame_len { (length frame.now ≡ 1486) × (length «data».old ≡ 4096) }
@@ -130,20 +137,22 @@ fn feed_piece(
         if i < text.len() {
             let change = line_end(desk, phase, part, frame, data);
             match change {
-                Some(change) if is_quiet(change) => {
-                    let at = change.at;
-                    let slot = change.slot;
-                    desk.line[at] = slot;
-                    desk.waiting = change.waiting;
-                    desk.counter = change.counter;
-                    phase = Phase::Reply;
-                }
-                Some(change) => {
-                    let turn = print_answer(desk, change, data, out, printed);
-                    desk = turn.desk;
-                    phase = turn.phase;
-                    printed = turn.end;
-                }
+                Some(decided) => match decided {
+                    Ok(change) if is_quiet(change) => {
+                        let at = change.at;
+                        let slot = change.slot;
+                        desk.line[at] = slot;
+                        desk.waiting = change.waiting;
+                        desk.counter = change.counter;
+                        phase = Phase::Reply;
+                    }
+                    _ => {
+                        let turn = print_answer(desk, decided, data, out, printed);
+                        desk = turn.desk;
+                        phase = turn.phase;
+                        printed = turn.end;
+                    }
+                },
                 None => {
                     let turn = last_number(desk, 0xff, out, printed);
                     desk = turn.desk;

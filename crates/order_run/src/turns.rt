@@ -1,14 +1,15 @@
 // What a line does at the desk's seat 0, and what it prints into `out` from a place on.
-ghost use Rattle.std.specs.Prelude.{◌≡◌, [], ◌∷◌, ◌+◌, ◌*◌, ◌≤◌, min, length, take};
+ghost use Rattle.std.specs.Prelude.{◌≡◌, [], ◌∷◌, ◌+◌, ◌*◌, ◌≤◌, min, length, take, IfOk};
 ghost use Rattle.wire.specs.Store.{laid};
 ghost use Rattle.desk.specs.Record.{Good};
-ghost use Rattle.desk.specs.Change.{Within, changed_by, called_by};
+ghost use Rattle.desk.specs.Change.{Within, called_by};
 ghost use Rattle.order_run.specs.Turns.{is_entry, is_over, line_text, last, request as Turns·request, after_form, after_receive, after_frame, kept_frame, after_all, quiet, Says, Enters, Turned};
 ghost use Rattle.order_run.specs.Entry.{form_of};
 
 use crate::entry::form_of;
 use desk::Desk;
-use desk::change::{Change, changed};
+use desk::change::Change;
+use wire::refusal::Refusal;
 
 // The seat of document 01's order program.
 const SEAT: u8 = 0;
@@ -100,28 +101,31 @@ fn done(desk: Desk, payload: u32, data: &[u8], out: &mut [u8], at: usize) -> Tur
 }
 
 // A bad entry changes nothing.
-fn entry_read(desk: Desk, frame: &[u8]) -> Option<Change>
+fn entry_read(desk: Desk, frame: &[u8]) -> Option<Result<Change, Refusal>>
     requires { Good desk }
     ensures { Enters desk (after_form desk (form_of frame.now)) result }
 {
     let order = form_of(frame)?;
-    let change = desk.entering(SEAT, order);
-    let answer = change.answer;
-    if answer.number == 0x01 {
-        return Some(change);
+    match desk.entering(SEAT, order) {
+        Ok(change) => Some(Ok(change)),
+        Err(_) => None,
     }
-    None
 }
 
 // What a line changes at the desk, if it is not bad: small, where the desk handed on by value would be copied at each hand.
-pub(crate) fn frame_read(desk: Desk, phase: Phase, frame: &[u8], data: &mut [u8]) -> Option<Change>
+pub(crate) fn frame_read(
+    desk: Desk,
+    phase: Phase,
+    frame: &[u8],
+    data: &mut [u8],
+) -> Option<Result<Change, Refusal>>
     requires { Good desk }
     ensures { Says desk (after_frame phase desk frame.now «data».old) result «data».new × («data».new ≡ kept_frame phase desk frame.now «data».old) }
 {
     if phase.is_entry() {
         return entry_read(desk, frame);
     }
-    Some(Desk::receiving(desk, SEAT, frame, data))
+    Some(desk.receiving(SEAT, frame, data))
 }
 
 // Whether the reply is still due, and one slot of the desk all that changes: the desk is then changed where it lies.
@@ -130,9 +134,6 @@ pub(crate) fn is_quiet(change: Change) -> bool
 {
     let answer = change.answer;
     if answer.number == 0x02 {
-        if change.kept {
-            return false;
-        }
         return change.last <= change.first;
     }
     false
@@ -140,17 +141,18 @@ pub(crate) fn is_quiet(change: Change) -> bool
 
 pub(crate) fn print_answer(
     desk: Desk,
-    change: Change,
+    decided: Result<Change, Refusal>,
     data: &[u8],
     out: &mut [u8],
     at: usize,
 ) -> Turn
-    requires good { Good (changed_by change desk) × Within change }
+    requires good { Good (called_by decided desk).desk }
+    requires within { IfOk decided Within }
     requires at_in_bounds { at + 33 ≤ length out.old }
     requires data_in_bounds { at + 2 * length «data».now + 3 ≤ length out.old }
-    ensures { Turned (after_receive (called_by change desk) «data».now) at result out.old out.new }
+    ensures { Turned (after_receive (called_by decided desk) «data».now) at result out.old out.new }
 {
-    let called = changed(desk, change);
+    let called = desk.called(decided);
     let answer = called.answer;
     let after = called.desk;
     if answer.number == 0x00 {

@@ -4,6 +4,8 @@ use mathlib.Core.List.{List, [], map}
 use Prim.Native.Nat.{ℕ}
 use lib.ListN.{get_or}
 use Rattle.transfer.specs.Coe.{Told}
+use Rattle.transfer.proofs.Refusals.{one_result}
+use Rattle.desk.specs.declared.change.Change.{Change}
 use Rattle.wire.proofs.One.{one}
 use Rattle.judge.specs.Answers.{plain_of}
 use Rattle.promises.specs.One.{Unique}
@@ -23,8 +25,8 @@ unique = record {
   fresh = λ c a b p q. one a b p.empty q.empty;
   enter_leave = λ d k a b p q. one a b p.told q.told;
   send_receive = λ d k s a b p q. λ i. (one a.0 b.0 p.told q.told i, one a.1 b.1 p.lent q.lent i);
-  changes = λ d k a b p q. one a b p.told q.told;
-  changes_lent = λ d k s a b p q. λ i. (one a.0 b.0 p.changes.told q.changes.told i, one a.1 b.1 p.lent q.lent i);
+  changes = λ d k a b p q. one_result Change a b (p.told ∙ sym q.told);
+  changes_lent = λ d k s a b p q. λ i. (one_result Change a.0 b.0 (p.changes.told ∙ sym q.changes.told) i, one a.1 b.1 p.lent q.lent i);
   run = λ s o f r d a b p q.
       let same = sym p ∙ q in
       λ i. (

@@ -30,7 +30,7 @@ pub record Unique : Type 1 where
   pub send_receive : (d : Desk) (k : Called) (before : List ℕ)
       → One (λ (r : given.Called × List ℕ). desk.GivesLent d k r.0 before r.1)
   pub changes : (d : Desk) (k : Called) → One (Changes d k)
-  pub changes_lent : (d : Desk) (k : Called) (before : List ℕ) → One (λ (r : Change × List ℕ). ChangesLent d k r.0 before r.1)
+  pub changes_lent : (d : Desk) (k : Called) (before : List ℕ) → One (λ (r : Result Change Refusal × List ℕ). ChangesLent d k r.0 before r.1)
   pub run : (seat : ℕ) (order : Order) (frame reply buffer : List ℕ)
       → One (λ (r : Seen × List ℕ × List ℕ). RunSeen seat order frame reply buffer r.0 r.1 r.2)
   -- what is said of a packed request by its fields

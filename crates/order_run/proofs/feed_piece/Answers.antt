@@ -15,7 +15,7 @@ use Rattle.order_run.proofs.Spoken.{turned_as, turned_at, quiet_turned}
 use Rattle.order_run.proofs.Characters.{put_digit, begun_put}
 use Rattle.order_run.proofs.Feeding.{Digits, Lines, digits_start, through, digits_put, digits_whole, line_done, rested_over, rested_end, rested_bad}
 use Rattle.order_run.proofs.feed_piece.Goals as goal
-use Rattle.order_run.proofs.feed_piece.Goals.{else-loop-i-test, then-loop-i-test+then-c-eq10, in-Some, in-Some-2, in-None}
+use Rattle.order_run.proofs.feed_piece.Goals.{else-loop-i-test, then-loop-i-test+then-c-eq10, in-Some+in-Ok, in-Some+in_default, in_default-via-in_default, in_default-via-in-Ok+else-is_quiet, in-None}
 
 -- the lines so far, the whole bytes that a line is gone on with, and the digits behind them
 gone_on : {t : List ℕ} {s₁ : St} {o₁ : List ℕ} {d : Desk} {ph : Phase} {p : Part} {f k o : List ℕ} {n i : ℕ} {p₂ : Part} {f₂ : List ℕ} {m : ℕ}
@@ -55,8 +55,13 @@ lines-preserved-then-i-text c =
     let spoken : Turned (end_said (st l.desk l.phase-1 l.part l.frame c.lines.«data»)) l.printed
     (record { desk = c.match-change.desk; phase = c.match-change.phase; end = c.match-change.printed }) l.out c.match-change.out =
     elim c.match-change.branch [
-      | in-Some w ↦ turned_at w.desk-is w.phase-is w.printed-is w.out-is (quiet_turned l.out l.printed (rw w.in-Some.is at e.ensures.0) (sym w.is_quiet.ensures ∙ w.if-is_quiet.true) (omega (arith, l.invariant.room)))
-      | in-Some-2 w ↦ turned_at w.desk-is w.phase-is w.printed-is w.out-is (turned_as (rw w.in-Some-2.is at e.ensures.0).told w.print_answer-turn.ensures)
+      | in-Some+in-Ok w ↦
+          turned_at w.desk-is w.phase-is w.printed-is w.out-is
+          (quiet_turned l.out l.printed (rw w.in-Ok.is at (rw w.in-Some.is at e.ensures.0)) (sym w.is_quiet.ensures ∙ w.if-is_quiet.true) (omega (arith, l.invariant.room)))
+      | in-Some+in_default w ↦
+          let same : w.in-Some.decided ≡ w.in_default.decided =
+          elim w.in_default.branch [ in_default-via-in_default v ↦ sym v.decided-is | in_default-via-in-Ok+else-is_quiet v ↦ v.in-Ok.is ∙ sym v.decided-is ] in
+          turned_at w.desk-is w.phase-is w.printed-is w.out-is (turned_as (rw same at (rw w.in-Some.is at e.ensures.0)).told w.print_answer-turn.ensures)
       | in-None w ↦ turned_at w.desk-is w.phase-is w.printed-is w.out-is (turned_as (rw w.in-None.is at e.ensures.0) w.last_number-turn.ensures)
     ] in
     line_done (gone_on c.lines.invariant c.requires.text_len_bound (sym c.is_over.ensures ∙ c.if-is_over.false) w.ensures w.auto.frame c.further-part.ensures l.invariant)

@@ -5,4 +5,4 @@ use Rattle.desk.proofs.Desk.leave.Goals as goal
 
 pub returns : goal.returns
 returns c =
-    gives _ c.requires _ _ (c.changed.ensures ∙ c.leaving.ensures.makes)
+    gives _ c.requires _ _ (c.called.ensures ∙ c.leaving.ensures.makes)

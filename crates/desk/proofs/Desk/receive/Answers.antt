@@ -5,5 +5,5 @@ use Rattle.desk.proofs.Desk.receive.Goals as goal
 
 pub returns : goal.returns
 returns c =
-    let e = c.receiving-change.ensures in
-    gives_lent _ c.requires _ _ (c.changed.ensures ∙ e.changes.makes) _ _ e.lent
+    let e = c.receiving-decided.ensures in
+    gives_lent _ c.requires _ _ (c.called.ensures ∙ e.changes.makes) _ _ e.lent

@@ -5,5 +5,5 @@ use Rattle.desk.proofs.Desk.send.Goals as goal
 
 pub returns : goal.returns
 returns c =
-    let e = c.sending-change.ensures in
-    gives_lent _ c.requires _ _ (c.changed.ensures ∙ e.changes.makes) _ _ e.lent
+    let e = c.sending-decided.ensures in
+    gives_lent _ c.requires _ _ (c.called.ensures ∙ e.changes.makes) _ _ e.lent
