@@ -21,22 +21,14 @@ pub struct Seen {
 pub fn run(seat: u8, order: Order, frame: &mut [u8], reply: &[u8], buffer: &mut [u8]) -> Seen
     ensures { RunSeen seat order frame.old reply.now buffer.old result frame.new buffer.new }
 {
-    let fresh = Desk::fresh();
-    let first = fresh.enter(seat, order);
-    let entered = first.answer;
-    let waiting = first.desk;
-    let second = waiting.send(seat, frame);
-    let sent = second.answer;
-    let awaiting = second.desk;
-    let third = awaiting.receive(seat, reply, buffer);
-    let received = third.answer;
-    let over = third.desk;
-    let fourth = over.leave(seat);
-    let left = fourth.answer;
+    let entered = Desk::fresh().enter(seat, order);
+    let sent = entered.desk.send(seat, frame);
+    let received = sent.desk.receive(seat, reply, buffer);
+    let left = received.desk.leave(seat);
     Seen {
-        entered,
-        sent,
-        received,
-        left,
+        entered: entered.answer,
+        sent: sent.answer,
+        received: received.answer,
+        left: left.answer,
     }
 }

@@ -6,4 +6,4 @@ pub returns : goal.returns
 returns c =
     let a = c.args in
     four a.seat a.order a.frame.now a.reply.now a.buffer.now _ _ _ _ _ _ _
-    c.fresh-fresh.ensures c.enter-first.ensures c.send-second.ensures c.receive-third.ensures c.leave-fourth.ensures
+    c.fresh.ensures c.enter-entered.ensures c.send-sent.ensures c.receive-received.ensures c.leave-left.ensures
