@@ -1,4 +1,3 @@
-pub mod Asked
 pub mod Numbers
 pub mod Chunks
 pub mod Lives

@@ -9,7 +9,7 @@ use mailbox::sub_index::SubIndex;
 // Document 02, [12]: "The default in the programs and in the linked functions that name no budget becomes 1,024."
 pub const DEFAULT_BUDGET: u16 = 1024;
 
-#[derive(Clone, Copy)]
+#[derive(Clone, Copy, Debug, PartialEq, Eq)]
 pub enum Kind {
     Upload(SubIndex),
     Download(SubIndex),

@@ -67,6 +67,7 @@ impl Transfer {
     }
 
     // Judges the reply that is due and stores its chunk; the transfer afterwards, if it is not over.
+    #[tactic(auto, using(wire::proofs::Tests::tests), unfolding(crate::specs::Coe::receives_if_due, crate::specs::Coe::receives_with, crate::specs::Coe::judged, crate::specs::Due::request_due))]
     pub fn receive(
         self,
         reply: &[u8],
