@@ -4,9 +4,9 @@ use std::io;
 
 pub(crate) fn abort_code(rt: &impl Print, case: &[u8]) -> io::Result<()> {
     let code = CoeAbortCode::from(wire::long_at(case, 1));
-    show::number(rt, u32::from(code) as u64, 8)?;
-    match code {
-        CoeAbortCode::Unknown(_) => show::words(rt, b" Unknown"),
-        _ => show::words(rt, b" listed"),
-    }
+    let known = match code {
+        CoeAbortCode::Unknown(_) => "Unknown",
+        _ => "listed",
+    };
+    print!(rt; "{:08x} {known}", u32::from(code))
 }

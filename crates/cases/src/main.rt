@@ -14,6 +14,45 @@ use std::io::Read;
 
 const FILL: u8 = 0xa5;
 
+// What a case calls: a writer, the table of abort codes, the test of a reply, a judge, a read.
+#[derive(Clone, Copy)]
+pub(crate) enum Kind {
+    UploadFrame,
+    DownloadFrame,
+    SegmentFrame,
+    ListFrame,
+    AbortCode,
+    Response,
+    UploadReply,
+    DownloadReply,
+    SegmentReply,
+    ListReply,
+    Typed,
+    Item,
+    Quantities,
+    List,
+}
+
+fn kind_of(number: u8) -> Option<Kind> {
+    match number {
+        0x01 => Some(Kind::UploadFrame),
+        0x02 => Some(Kind::DownloadFrame),
+        0x03 => Some(Kind::SegmentFrame),
+        0x04 => Some(Kind::ListFrame),
+        0x05 => Some(Kind::AbortCode),
+        0x06 => Some(Kind::Response),
+        0x10 => Some(Kind::UploadReply),
+        0x11 => Some(Kind::DownloadReply),
+        0x12 => Some(Kind::SegmentReply),
+        0x13 => Some(Kind::ListReply),
+        0x20 => Some(Kind::Typed),
+        0x21 => Some(Kind::Item),
+        0x22 => Some(Kind::Quantities),
+        0x23 => Some(Kind::List),
+        _ => None,
+    }
+}
+
 const PIECE: u64 = 65536;
 
 fn buffer_space() -> [u8; 131072]
@@ -30,14 +69,14 @@ fn case_space() -> [u8; 2048]
 
 // How many bytes of a case stand in front of a download's data or of a reply: the last are the frame's size, in two bytes, or the data
 // buffer's length, in four.
-pub(crate) fn head(case: &[u8]) -> usize
+pub(crate) fn head(kind: Kind) -> usize
     ensures { (5 ≤ result) × (result ≤ 10) }
 {
-    match wire::byte(case, 0) {
-        0x03 => 5,
-        0x04 => 6,
-        0x12 => 9,
-        0x13 => 10,
+    match kind {
+        Kind::SegmentFrame => 5,
+        Kind::ListFrame => 6,
+        Kind::SegmentReply => 9,
+        Kind::ListReply => 10,
         _ => 8,
     }
 }
@@ -47,18 +86,29 @@ pub(crate) fn fill(buffer: &mut [u8]) {
     buffer.fill(FILL);
 }
 
-fn dispatch(rt: &impl Print, case: &[u8], buffer: &mut [u8]) -> io::Result<()> {
-    match wire::byte(case, 0) {
-        0x01..=0x04 => requests::frame(rt, case, buffer),
-        0x05 => aborts::abort_code(rt, case),
-        0x06 => requests::response(rt, case),
-        0x10..=0x13 => replies::reply(rt, case, buffer),
-        0x20 => values::typed(rt, case),
-        0x21 => values::item(rt, case),
-        0x22 => values::quantities(rt, case),
-        0x23 => values::list(rt, case),
-        _ => show::words(rt, b"no such case"),
+fn dispatch(rt: &impl Print, kind: Kind, case: &[u8], buffer: &mut [u8]) -> io::Result<()> {
+    match kind {
+        Kind::UploadFrame | Kind::DownloadFrame | Kind::SegmentFrame | Kind::ListFrame => {
+            requests::frame(rt, kind, case, buffer)
+        }
+        Kind::UploadReply | Kind::DownloadReply | Kind::SegmentReply | Kind::ListReply => {
+            replies::reply(rt, kind, case, buffer)
+        }
+        Kind::AbortCode => aborts::abort_code(rt, case),
+        Kind::Response => requests::response(rt, case),
+        Kind::Typed => values::typed(rt, case),
+        Kind::Item => values::item(rt, case),
+        Kind::Quantities => values::quantities(rt, case),
+        Kind::List => values::list(rt, case),
     }
+}
+
+fn run_case(rt: &impl Print, case: &[u8], buffer: &mut [u8]) -> io::Result<()> {
+    match kind_of(wire::byte(case, 0)) {
+        Some(kind) => dispatch(rt, kind, case, buffer)?,
+        None => print!(rt; "no such case")?,
+    }
+    println!(rt)
 }
 
 fn run_line(rt: &impl Print, line: &[u8], space: &mut [u8], buffer: &mut [u8]) -> io::Result<()> {
@@ -66,10 +116,9 @@ fn run_line(rt: &impl Print, line: &[u8], space: &mut [u8], buffer: &mut [u8]) -
         return Ok(());
     }
     if let Some(n) = order_text::decode(line, space) {
-        dispatch(rt, &space[..n], buffer)?;
-        show::words(rt, b"\n")
+        run_case(rt, &space[..n], buffer)
     } else {
-        show::words(rt, b"no such line\n")
+        println!(rt; "no such line")
     }
 }
 

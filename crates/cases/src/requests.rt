@@ -1,5 +1,5 @@
 // The writers: the number, the first sixteen bytes behind the buffer's start, its last byte and the byte behind it.
-use crate::{fill, head};
+use crate::{Kind, fill, head};
 use mailbox::sub_index::SubIndex;
 use services::Request;
 use std::io;
@@ -11,26 +11,24 @@ fn written(
     size: usize,
     buffer: &[u8],
 ) -> io::Result<()> {
-    show::number(rt, u64::from(services::number_of(wrote)), 2)?;
-    show::words(rt, b" ")?;
+    print!(rt; "{:02x} ", services::number_of(wrote))?;
     show::first(rt, buffer, 16)?;
     let last = size
         .checked_sub(1)
         .map_or(0, |last| wire::byte(buffer, last));
-    show::next(rt, u64::from(last), 2)?;
-    show::next(rt, u64::from(wire::byte(buffer, size)), 2)
+    print!(rt; " {last:02x} {:02x}", wire::byte(buffer, size))
 }
 
-fn wrote(case: &[u8], data: &[u8], frame: &mut [u8]) -> Result<(), Refusal> {
-    match wire::byte(case, 0) {
-        0x01 => services::checked::upload_frame(
+fn wrote(kind: Kind, case: &[u8], data: &[u8], frame: &mut [u8]) -> Result<(), Refusal> {
+    match kind {
+        Kind::UploadFrame => services::checked::upload_frame(
             wire::byte(case, 1),
             wire::word_at(case, 2),
             wire::byte(case, 4),
             wire::byte(case, 5),
             frame,
         ),
-        0x02 => services::checked::download_frame(
+        Kind::DownloadFrame => services::checked::download_frame(
             wire::byte(case, 1),
             wire::word_at(case, 2),
             wire::byte(case, 4),
@@ -38,17 +36,19 @@ fn wrote(case: &[u8], data: &[u8], frame: &mut [u8]) -> Result<(), Refusal> {
             data,
             frame,
         ),
-        0x03 => services::checked::segment_frame(wire::byte(case, 1), wire::byte(case, 2), frame),
+        Kind::SegmentFrame => {
+            services::checked::segment_frame(wire::byte(case, 1), wire::byte(case, 2), frame)
+        }
         _ => services::checked::list_frame(wire::byte(case, 1), wire::word_at(case, 2), frame),
     }
 }
 
-pub(crate) fn frame(rt: &impl Print, case: &[u8], buffer: &mut [u8]) -> io::Result<()> {
-    let head = head(case);
+pub(crate) fn frame(rt: &impl Print, kind: Kind, case: &[u8], buffer: &mut [u8]) -> io::Result<()> {
+    let head = head(kind);
     let size = wire::word_at(case, head - 2) as usize;
     if head <= case.len() && size <= buffer.len() {
         fill(buffer);
-        let wrote = wrote(case, &case[head..], &mut buffer[0..size]);
+        let wrote = wrote(kind, case, &case[head..], &mut buffer[..size]);
         written(rt, wrote, size, buffer)?;
     }
     Ok(())
@@ -81,5 +81,5 @@ fn request(case: &[u8]) -> Request {
 
 pub(crate) fn response(rt: &impl Print, case: &[u8]) -> io::Result<()> {
     let answers = request(case).validate_response(wire::word_at(case, 6), wire::byte(case, 8));
-    show::number(rt, u64::from(answers), 2)
+    print!(rt; "{:02x}", u8::from(answers))
 }

@@ -12,8 +12,7 @@ fn valued(rt: &impl Print, read: Result<u64, Refusal>, width: usize) -> io::Resu
         Ok(value) => (0, value),
         Err(refusal) => (refusal.number(), 0),
     };
-    show::number(rt, number as u64, 2)?;
-    show::next(rt, value, width)
+    print!(rt; "{number:02x} {value:0width$x}")
 }
 
 // A signed value is printed as its 32 bits.
@@ -40,7 +39,8 @@ pub(crate) fn item(rt: &impl Print, case: &[u8]) -> io::Result<()> {
         let at = wire::eight_at(case, 1);
         let read = item_at(&case[9..], at as usize);
         valued(rt, read.map(|item| u64::from(item.index)), 4)?;
-        show::next(rt, read.map_or(at, |item| item.next as u64), 16)?;
+        let next = read.map_or(at, |item| item.next as u64);
+        print!(rt; " {next:016x}")?;
     }
     Ok(())
 }
@@ -56,7 +56,7 @@ pub(crate) fn quantities(rt: &impl Print, case: &[u8]) -> io::Result<()> {
             counts.stored_for_device_replacement,
             counts.startup_parameters,
         ] {
-            show::next(rt, u64::from(count), 4)?;
+            print!(rt; " {count:04x}")?;
         }
     }
     Ok(())
@@ -69,7 +69,7 @@ fn list_into(rt: &impl Print, case: &[u8], items: &mut [u16]) -> io::Result<()> 
         let read = read_list(&case[2..], &mut items[..room]);
         valued(rt, read.map(|count| count as u64), 4)?;
         for item in items {
-            show::next(rt, u64::from(*item), 4)?;
+            print!(rt; " {item:04x}")?;
         }
     }
     Ok(())

@@ -1,4 +1,4 @@
-// What the programs that replay stored lines print: numbers, an answer, bytes, and a check of bytes that are too many to print.
+// What the programs that replay stored lines print: an answer, bytes, and a check of bytes that are too many to print.
 #![tactic(auto)]
 
 ghost use Rattle.std.specs.Prelude.{◌≡◌};
@@ -6,19 +6,6 @@ ghost use Rattle.show.specs.Check.{check_of};
 
 use judge::Answer;
 use std::io;
-
-pub fn words(rt: &impl Print, text: &[u8]) -> io::Result<()> {
-    rt.write_all(text)
-}
-
-pub fn number(rt: &impl Print, n: u64, width: usize) -> io::Result<()> {
-    print!(rt; "{n:0width$x}")
-}
-
-pub fn next(rt: &impl Print, n: u64, width: usize) -> io::Result<()> {
-    words(rt, b" ")?;
-    number(rt, n, width)
-}
 
 pub fn answer(rt: &impl Print, answer: Answer) -> io::Result<()> {
     let Answer {
@@ -34,7 +21,7 @@ pub fn answer(rt: &impl Print, answer: Answer) -> io::Result<()> {
 
 fn spelled(rt: &impl Print, s: &[u8], text: &mut [u8]) -> io::Result<()> {
     let n = order_text::encode(s, text);
-    words(rt, &text[..n])
+    rt.write_all(&text[..n])
 }
 
 // As many of the bytes as have room in a buffer.
@@ -57,7 +44,7 @@ pub fn first(rt: &impl Print, s: &[u8], most: usize) -> io::Result<()> {
 
 // The first `most` bytes, and the check of all.
 pub fn looked(rt: &impl Print, s: &[u8], most: usize, width: usize) -> io::Result<()> {
-    words(rt, b" ")?;
+    print!(rt; " ")?;
     first(rt, s, most)?;
-    next(rt, check(s) as u64, width)
+    print!(rt; " {:0width$x}", check(s))
 }
