@@ -21,7 +21,8 @@ pub mod record;
 // "A fresh desk sends 1"
 pub const FIRST_COUNTER: u8 = 1;
 
-// The line in the first `waiting` slots, by order of entry, and blanks behind it; the counter of the next frame.
+// The line in the first `waiting` slots, by order of entry, and blanks behind it; the counter of the next frame. `Good` is no invariant of
+// this type but a clause of each call: C lends the record (linked::lending), and `coe_desk_fresh` takes one that holds anything.
 #[repr(C)]
 #[derive(Clone, Copy)]
 pub struct Desk {

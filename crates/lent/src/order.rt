@@ -7,10 +7,7 @@ use transfer::Order;
 fn len_of(n: usize) -> u8
     ensures { result ≡ len_of n }
 {
-    if 4 < n {
-        return 5;
-    }
-    n as u8
+    n.min(5) as u8
 }
 
 pub fn order_from(kind: u8, index: u16, sub: u8, bytes: &[u8], budget: u16) -> Order
