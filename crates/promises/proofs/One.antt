@@ -21,6 +21,8 @@ unfolding told
 unique = record {
   equality = λ x a b p q. one a b p q;
   equalities = λ x y a b p q. λ i. (one a.0 b.0 p.0 q.0 i, one a.1 b.1 p.1 q.1 i);
+  ruling = λ v a b p q. one_result _ a b (p ∙ sym q);
+  rulings = λ v y a b p q. λ i. (one_result _ a.0 b.0 (p.0 ∙ sym q.0) i, one a.1 b.1 p.1 q.1 i);
   writers = λ f c r s a b p q. λ i. (one a.0 b.0 p.answer q.answer i, one a.1 b.1 p.frame q.frame i);
   fresh = λ c a b p q. one a b p.empty q.empty;
   enter_leave = λ d k a b p q. one a b p.told q.told;

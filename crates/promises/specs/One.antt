@@ -7,6 +7,8 @@ use Rattle.wire.specs.Words.{One}
 use Rattle.wire.specs.declared.refusal.Refusal.{Refusal}
 use Rattle.services.specs.Written.{Writes}
 use Rattle.services.specs.declared.Request.{Request}
+use Rattle.line.specs.Machine.{Ruling}
+use Rattle.transfer.specs.Coe.{ruling_of}
 use Rattle.transfer.specs.declared.Order.{Order}
 use Rattle.desk.specs.Calls as desk
 use Rattle.desk.specs.Change.{Changes, ChangesLent}
@@ -23,6 +25,9 @@ pub record Unique : Type 1 where
   pub equality : {A : Type 0} (x : A) → One (λ r. r ≡ x)
   -- `(r ≡ x) × (what is lent ≡ y)`, or the same of the answer's two fields
   pub equalities : {A B : Type 0} (x : A) (y : B) → One (λ (r : A × B). (r.0 ≡ x) × (r.1 ≡ y))
+  -- the same of a result, as the ruling that it stands for
+  pub ruling : {A : Type 0} (v : Ruling A) → One (λ r. ruling_of r ≡ v)
+  pub rulings : {A B : Type 0} (v : Ruling A) (y : B) → One (λ (r : Result A Refusal × B). (ruling_of r.0 ≡ v) × (r.1 ≡ y))
   pub writers : (fine : Bool) (counter : ℕ) (request : Request) (before : List ℕ)
       → One (λ (r : Result (Unit {0}) Refusal × List ℕ). Writes fine counter request before r.0 r.1)
   pub fresh : (counter : ℕ) → One (desk.Fresh counter)
