@@ -62,7 +62,8 @@ fn byte_at(line: &[u8], k: usize) -> u16
     byte_of(line[2 * k], line[2 * k + 1])
 }
 
-// The first `count` bytes of a line of digits, at the front of `frame`.
+// The first `count` bytes of a line of digits, at the front of `frame`. By the bytes' places: a zip with chunks of the line was tried,
+// and no proof knows what is written through it.
 fn store(line: &[u8], frame: &mut [u8], count: usize)
     requires line_value { has_bad line.now ≡ false }
     requires count_in_bounds { 2 * count ≤ length line.now }
@@ -93,7 +94,8 @@ pub fn decode(line: &[u8], frame: &mut [u8]) -> Option<usize>
     Some(count)
 }
 
-// The text of as many bytes as have room, at the front of `out`. Answers its length.
+// The text of as many bytes as have room, at the front of `out`. Answers its length. By places, as in store: of chunks_mut a proof
+// knows the length alone.
 pub fn encode(bytes: &[u8], out: &mut [u8]) -> usize
     ensures { (result ≡ length (text_in (length out.old) bytes.now)) × (out.new ≡ laid out.old 0 (text_in (length out.old) bytes.now)) }
 {

@@ -25,6 +25,7 @@ fn call_space() -> [u8; 2048]
     [0; 2048]
 }
 
+// The numbers stay numbers: they are read here alone, and an enum would only say each of them a second time.
 fn called(
     rt: &impl Print,
     before: Standing,
