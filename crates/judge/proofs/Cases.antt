@@ -8,13 +8,17 @@ use native.Mathlib.Omega.{arith}
 use borrow.Author.Tests.{ltb-false, eqb-true}
 use lib.Dec.{ltb, leb, eqb}
 use lib.ListN.{length}
-use Rattle.std.specs.Prelude.{Some, None}
+use Rattle.std.specs.Prelude.{Result, Ok, Err, Option, Some, None}
 use Rattle.wire.specs.Words.{pick}
 use Rattle.wire.proofs.Cases.{by}
+use Rattle.wire.specs.declared.refusal.Refusal.{Refusal}
 use Rattle.wire.specs.declared.refusal.Refusal.TheVariants.{Undecodable, WrongReply, TooLarge, MissingBytes, LengthField}
 use Rattle.mailbox.specs.Fields.{the, complete_size}
 use Rattle.mailbox.specs.Numbers.{command_number, operation_number}
 use Rattle.mailbox.specs.declared.numbers.CoeCommand.{CoeCommand}
+use Rattle.mailbox.specs.declared.sdo.SdoHeader.{SdoHeader}
+use Rattle.mailbox.specs.declared.segment.SdoHeaderSegmented.{SdoHeaderSegmented}
+use Rattle.mailbox.specs.declared.information.SdoInfoHeader.{SdoInfoHeader}
 use Rattle.judge.specs.Places.{emergency_least, abort_least, download_least, expedited_at, normal_at, normal_least, segment_at}
 use Rattle.judge.specs.Headers.{read_headers, read_segment_headers, read_information_headers, wrong_type, wrong_address}
 use Rattle.judge.specs.Alarm.{emergency_in, abort_in}
@@ -22,16 +26,11 @@ use Rattle.judge.specs.Chunk.{lacking, chunk_at, on_chunk}
 use Rattle.judge.specs.Reply.{on_headers, in_order, reply_to}
 use Rattle.judge.specs.Download.{download_of, judge_download}
 use Rattle.judge.specs.Upload.{expedited_of, whole_of, d_of, normal_of, upload_of, judge_upload}
-use Rattle.judge.specs.Segment.{chunk_length, segment_of, on_segment_headers, judge_segment}
+use Rattle.judge.specs.Segment.{chunk_length, segment_of, judge_segment}
 use Rattle.judge.specs.Information.{fragment_at, fragment_of, on_information_headers, judge_list}
 use Rattle.judge.specs.declared.Verdict.{Verdict}
 use Rattle.judge.specs.declared.Verdict.TheVariants.{Refused, Emergency, Aborted, Done, SegmentsFollow, Segment, Fragment, ReplyDue}
 use Rattle.judge.specs.declared.headers.Headers.{Headers}
-use Rattle.judge.specs.declared.headers.HeadersRead.{HeadersRead}
-use Rattle.judge.specs.declared.headers.SegmentHeaders.{SegmentHeaders}
-use Rattle.judge.specs.declared.headers.SegmentHeadersRead.{SegmentHeadersRead}
-use Rattle.judge.specs.declared.headers.InformationHeaders.{InformationHeaders}
-use Rattle.judge.specs.declared.headers.InformationHeadersRead.{InformationHeadersRead}
 
 -- bytes that are not lacking are there
 there : (size from len : ℕ) → lacking size from len ≡ false → len ≤ size - from
@@ -70,16 +69,16 @@ module _ (P : Verdict → Type 0) where
   order_cases s command wrong own a p =
       either_way (eqb (command_number command) 4) _ _ (abort_cases s a) (either_way wrong _ _ a.other p)
 
-  headers_cases : (s : List ℕ) (q : HeadersRead) (f : Headers → Verdict) → Alarming P → ((h : Headers) → P (f h)) → P (on_headers s q f)
-  headers_cases s HeadersRead.Undecodable f a p = a.refused
-  headers_cases s HeadersRead.Emergency f a p = emergency_cases s a
-  headers_cases s (HeadersRead.Headers h) f a p = p h
+  headers_cases : {H : Type 0} (s : List ℕ) (q : Result (Option (Headers H)) Refusal) (f : Headers H → Verdict) → Alarming P → ((h : Headers H) → P (f h)) → P (on_headers s q f)
+  headers_cases s (Err refusal) f a p = a.refused
+  headers_cases s (Ok None) f a p = emergency_cases s a
+  headers_cases s (Ok (Some h)) f a p = p h
 
-  reply_cases : (index sub : ℕ) (s : List ℕ) (f : Headers → Verdict) → Alarming P → ((h : Headers) → P (f h)) → P (reply_to index sub s f)
+  reply_cases : (index sub : ℕ) (s : List ℕ) (f : Headers SdoHeader → Verdict) → Alarming P → ((h : Headers SdoHeader) → P (f h)) → P (reply_to index sub s f)
   unfolding reply_to
   reply_cases index sub s f a p =
       headers_cases s (read_headers s) _ a λ h.
-      order_cases s h.sdo.command (wrong_address h index sub) _ a (p h)
+      order_cases s h.header.command (wrong_address h index sub) _ a (p h)
 
   download_rule : (size : ℕ) → Alarming P → P (Done 0 0) → P (download_of size)
   unfolding download_of
@@ -106,10 +105,10 @@ module _ (P : Verdict → Type 0) where
         (either_way (ltb n (the complete_size s)) _ _ big
         (either_way (leb (the complete_size s) (d_of length_field)) _ _ (whole_rule (d_of length_field)) on))
 
-    upload_rule : (h : Headers) (n : ℕ) → Alarming P → P (Refused TooLarge) → P SegmentsFollow → P (upload_of s h n)
+    upload_rule : (h : Headers SdoHeader) (n : ℕ) → Alarming P → P (Refused TooLarge) → P SegmentsFollow → P (upload_of s h n)
     unfolding upload_of
     upload_rule h n a big on =
-        either_way h.sdo.expedited_transfer _ _ (expedited_rule h.sdo.size) (normal_rule h.mailbox.length n a big on)
+        either_way h.header.expedited_transfer _ _ (expedited_rule h.header.size) (normal_rule h.mailbox.length n a big on)
 
     pub upload_cases : (index sub n : ℕ) → Alarming P → P (Refused TooLarge) → P SegmentsFollow → P (judge_upload index sub n s)
     unfolding judge_upload
@@ -129,40 +128,35 @@ module _ (P : Verdict → Type 0) where
       p (there size from len e) (ltb-false n (earlier + len) g)
 
   module _ (s : List ℕ) (earlier n : ℕ) (short : P (Refused LengthField)) (missing : P (Refused MissingBytes)) where
-    segment_rule : (h : SegmentHeaders) → ((from len : ℕ) (last : Bool) → len ≤ length s - from → earlier + len ≤ n → P (Segment from len (earlier + len) last))
+    segment_rule : (h : Headers SdoHeaderSegmented) → ((from len : ℕ) (last : Bool) → len ≤ length s - from → earlier + len ≤ n → P (Segment from len (earlier + len) last))
         → P (segment_of (length s) h earlier n)
     unfolding segment_of
     segment_rule h p =
-        let len = chunk_length h.mailbox.length h.segment.segment_data_size in
+        let len = chunk_length h.mailbox.length h.header.segment_data_size in
         either_way (ltb h.mailbox.length 3) _ _ short
-        (chunk_cases (length s) segment_at len earlier n _ missing (p segment_at len h.segment.is_last_segment))
-
-    segment_headers : (q : SegmentHeadersRead) (f : SegmentHeaders → Verdict) → Alarming P → ((h : SegmentHeaders) → P (f h)) → P (on_segment_headers s q f)
-    segment_headers SegmentHeadersRead.Undecodable f a p = a.refused
-    segment_headers SegmentHeadersRead.Emergency f a p = emergency_cases s a
-    segment_headers (SegmentHeadersRead.Headers h) f a p = p h
+        (chunk_cases (length s) segment_at len earlier n _ missing (p segment_at len h.header.is_last_segment))
 
     pub segment_cases : Alarming P
         → ((from len : ℕ) (last : Bool) → len ≤ length s - from → earlier + len ≤ n → P (Segment from len (earlier + len) last))
         → P (judge_segment earlier n s)
     unfolding judge_segment
     segment_cases a p =
-        segment_headers (read_segment_headers s) _ a λ h.
-        order_cases s h.segment.command (wrong_type h.mailbox) _ a (segment_rule h p)
+        headers_cases s (read_segment_headers s) _ a λ h.
+        order_cases s h.header.command (wrong_type h.mailbox) _ a (segment_rule h p)
 
-    pub fragment_rule : (h : InformationHeaders) (from : ℕ)
+    pub fragment_rule : (h : Headers SdoInfoHeader) (from : ℕ)
         → ((from len : ℕ) (last : Bool) → len ≤ length s - from → earlier + len ≤ n → P (Fragment from len (earlier + len) last))
         → P (fragment_of (length s) h from earlier n)
     unfolding fragment_of
     fragment_rule h from p =
         let len = h.mailbox.length - 8 in
         either_way (ltb h.mailbox.length 8) _ _ short
-        (chunk_cases (length s) from len earlier n _ missing (p from len (not h.information.incomplete)))
+        (chunk_cases (length s) from len earlier n _ missing (p from len (not h.header.incomplete)))
 
-    information_headers : (q : InformationHeadersRead) (f : InformationHeaders → Verdict) → P (Refused Undecodable) → ((h : InformationHeaders) → P (f h))
+    information_headers : (q : Result (Headers SdoInfoHeader) Refusal) (f : Headers SdoInfoHeader → Verdict) → P (Refused Undecodable) → ((h : Headers SdoInfoHeader) → P (f h))
         → P (on_information_headers q f)
-    information_headers InformationHeadersRead.Undecodable f p q = p
-    information_headers (InformationHeadersRead.Headers h) f p q = q h
+    information_headers (Err refusal) f p q = p
+    information_headers (Ok h) f p q = q h
 
     pub list_cases : (begun : Bool) → P (Refused Undecodable) → P ReplyDue
         → ((from len : ℕ) (last : Bool) → len ≤ length s - from → earlier + len ≤ n → P (Fragment from len (earlier + len) last))
@@ -170,4 +164,4 @@ module _ (P : Verdict → Type 0) where
     unfolding judge_list
     list_cases begun r due p =
         information_headers (read_information_headers s) _ r λ h.
-        either_way (eqb (operation_number h.information.op_code) 2) _ _ (fragment_rule h (fragment_at begun) p) due
+        either_way (eqb (operation_number h.header.op_code) 2) _ _ (fragment_rule h (fragment_at begun) p) due

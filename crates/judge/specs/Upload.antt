@@ -3,6 +3,7 @@ use Rattle.std.specs.Prelude.{List, ℕ, ◌-◌, ltb, leb, length}
 use Rattle.wire.specs.Words.{pick}
 use Rattle.wire.specs.declared.refusal.Refusal.TheVariants.{Undecodable, TooLarge, MissingBytes}
 use Rattle.mailbox.specs.Fields.{the, complete_size}
+use Rattle.mailbox.specs.declared.sdo.SdoHeader.{SdoHeader}
 use Rattle.judge.specs.Places.{expedited_at, normal_at, normal_least}
 use Rattle.judge.specs.Chunk.{lacking}
 use Rattle.judge.specs.Reply.{reply_to}
@@ -31,9 +32,9 @@ normal_of s length_field n =
     (pick (leb (the complete_size s) (d_of length_field)) (whole_of (length s) (d_of length_field))
     SegmentsFollow))
 
-unfoldable pub upload_of : List ℕ → Headers → ℕ → Verdict
+unfoldable pub upload_of : List ℕ → Headers SdoHeader → ℕ → Verdict
 upload_of s h n =
-    pick h.sdo.expedited_transfer (expedited_of (length s) h.sdo.size)
+    pick h.header.expedited_transfer (expedited_of (length s) h.header.size)
     (normal_of s h.mailbox.length n)
 
 unfoldable pub judge_upload : ℕ → ℕ → ℕ → List ℕ → Verdict

@@ -4,8 +4,9 @@ ghost use Rattle.judge.specs.Download.{download_of, judge_download};
 
 use crate::Verdict;
 use crate::alarm::{abort, emergency};
-use crate::headers::{HeadersRead, read_headers, wrong_address};
-use crate::places::DOWNLOAD_LEAST;
+use crate::headers::{read_behind, wrong_address};
+use crate::places::{DOWNLOAD_LEAST, SDO_LEAST};
+use mailbox::sdo::SdoHeader;
 use wire::refusal::Refusal;
 
 #[tactic(auto, using(wire::proofs::Tests::tests), unfolding(crate::specs::Download::download_of))]
@@ -19,18 +20,15 @@ fn download(size: usize) -> Verdict
 }
 
 // Judges the reply to a download of an index and sub-index.
-#[tactic(auto, using(crate::proofs::InOrder::order), unfolding(crate::specs::Download::judge_download, crate::specs::Reply::reply_to))]
+#[tactic(auto, using(crate::proofs::InOrder::order), unfolding(crate::specs::Download::judge_download, crate::specs::Reply::reply_to, crate::specs::Headers::read_headers))]
 pub fn judge_download(s: &[u8], index: u16, sub: u8) -> Verdict
     ensures { result ≡ judge_download index sub s.now }
 {
-    let read = read_headers(s);
-    match read {
-        HeadersRead::Undecodable => Verdict::Refused(Refusal::Undecodable),
-        HeadersRead::Emergency => emergency(s),
-        HeadersRead::Headers(h) => {
-            let sdo = h.sdo;
-            let command = sdo.command;
-            if u8::from(command) == 4 {
+    match read_behind::<SdoHeader>(s, SDO_LEAST) {
+        Err(_) => Verdict::Refused(Refusal::Undecodable),
+        Ok(None) => emergency(s),
+        Ok(Some(h)) => {
+            if u8::from(h.header.command) == 4 {
                 return abort(s);
             }
             if wrong_address(h, index, sub) {

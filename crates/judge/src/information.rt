@@ -4,8 +4,9 @@ ghost use Rattle.judge.specs.Information.{fragment_at, fragment_of, judge_list};
 
 use crate::Verdict;
 use crate::chunk::chunk_at;
-use crate::headers::{InformationHeaders, InformationHeadersRead, read_information_headers};
+use crate::headers::{Headers, read_information_headers};
 use crate::places::{FIRST_FRAGMENT_AT, LATER_FRAGMENT_AT};
+use mailbox::information::SdoInfoHeader;
 use wire::refusal::Refusal;
 
 fn fragment_at(begun: bool) -> u8
@@ -18,7 +19,7 @@ fn fragment_at(begun: bool) -> u8
     }
 }
 
-fn fragment(size: usize, h: InformationHeaders, from: u8, earlier: u32, n: u32) -> Verdict
+fn fragment(size: usize, h: Headers<SdoInfoHeader>, from: u8, earlier: u32, n: u32) -> Verdict
     ensures { result ≡ fragment_of size h from earlier n }
 {
     if h.mailbox.length < 8 {
@@ -32,7 +33,7 @@ fn fragment(size: usize, h: InformationHeaders, from: u8, earlier: u32, n: u32) 
         from,
         len,
         sum,
-        last: !h.information.incomplete,
+        last: !h.header.incomplete,
     }
 }
 
@@ -40,13 +41,13 @@ fn fragment(size: usize, h: InformationHeaders, from: u8, earlier: u32, n: u32) 
 pub fn judge_list(s: &[u8], begun: bool, earlier: u32, n: u32) -> Verdict
     ensures { result ≡ judge_list begun earlier n s.now }
 {
-    let InformationHeadersRead::Headers(h) = read_information_headers(s) else {
-        return Verdict::Refused(Refusal::Undecodable);
-    };
-    let information = h.information;
-    let operation = information.op_code;
-    if u8::from(operation) == 2 {
-        return fragment(s.len(), h, fragment_at(begun), earlier, n);
+    match read_information_headers(s) {
+        Err(_) => Verdict::Refused(Refusal::Undecodable),
+        Ok(h) => {
+            if u8::from(h.header.op_code) == 2 {
+                return fragment(s.len(), h, fragment_at(begun), earlier, n);
+            }
+            Verdict::ReplyDue
+        }
     }
-    Verdict::ReplyDue
 }

@@ -5,8 +5,9 @@ ghost use Rattle.judge.specs.Segment.{chunk_length, segment_of, judge_segment};
 use crate::Verdict;
 use crate::alarm::{abort, emergency};
 use crate::chunk::chunk_at;
-use crate::headers::{SegmentHeaders, SegmentHeadersRead, read_segment_headers, wrong_type};
-use crate::places::SEGMENT_AT;
+use crate::headers::{Headers, read_behind, wrong_type};
+use crate::places::{SEGMENT_AT, SEGMENT_LEAST};
+use mailbox::segment::SdoHeaderSegmented;
 use wire::refusal::Refusal;
 
 // Only of a chunk of exactly 7 the unused count is taken off.
@@ -20,13 +21,13 @@ fn chunk_length(length: u16, unused: u8) -> u16
     len
 }
 
-fn segment(size: usize, h: SegmentHeaders, earlier: u32, n: u32) -> Verdict
+fn segment(size: usize, h: Headers<SdoHeaderSegmented>, earlier: u32, n: u32) -> Verdict
     ensures { result ≡ segment_of size h earlier n }
 {
     if h.mailbox.length < 3 {
         return Verdict::Refused(Refusal::LengthField);
     }
-    let len = chunk_length(h.mailbox.length, h.segment.segment_data_size);
+    let len = chunk_length(h.mailbox.length, h.header.segment_data_size);
     let Some(sum) = chunk_at(size, SEGMENT_AT, len, earlier, n) else {
         return Verdict::Refused(Refusal::MissingBytes);
     };
@@ -34,27 +35,23 @@ fn segment(size: usize, h: SegmentHeaders, earlier: u32, n: u32) -> Verdict
         from: SEGMENT_AT,
         len,
         sum,
-        last: h.segment.is_last_segment,
+        last: h.header.is_last_segment,
     }
 }
 
 // Judges a segment after chunks of `earlier` bytes, into a buffer of n.
-#[tactic(auto, using(crate::proofs::InOrder::segment_order), unfolding(crate::specs::Segment::judge_segment))]
+#[tactic(auto, using(crate::proofs::InOrder::order), unfolding(crate::specs::Segment::judge_segment, crate::specs::Headers::read_segment_headers))]
 pub fn judge_segment(s: &[u8], earlier: u32, n: u32) -> Verdict
     ensures { result ≡ judge_segment earlier n s.now }
 {
-    let read = read_segment_headers(s);
-    match read {
-        SegmentHeadersRead::Undecodable => Verdict::Refused(Refusal::Undecodable),
-        SegmentHeadersRead::Emergency => emergency(s),
-        SegmentHeadersRead::Headers(h) => {
-            let mailbox = h.mailbox;
-            let header = h.segment;
-            let command = header.command;
-            if u8::from(command) == 4 {
+    match read_behind::<SdoHeaderSegmented>(s, SEGMENT_LEAST) {
+        Err(_) => Verdict::Refused(Refusal::Undecodable),
+        Ok(None) => emergency(s),
+        Ok(Some(h)) => {
+            if u8::from(h.header.command) == 4 {
                 return abort(s);
             }
-            if wrong_type(mailbox) {
+            if wrong_type(h.mailbox) {
                 return Verdict::Refused(Refusal::WrongReply);
             }
             segment(s.len(), h, earlier, n)

@@ -5,8 +5,9 @@ ghost use Rattle.judge.specs.Upload.{expedited_of, whole_of, normal_of, upload_o
 use crate::Verdict;
 use crate::alarm::{abort, emergency};
 use crate::chunk::lacks;
-use crate::headers::{Headers, HeadersRead, read_headers, wrong_address};
-use crate::places::{COMPLETE_SIZE, EXPEDITED_AT, NORMAL_AT, NORMAL_LEAST};
+use crate::headers::{Headers, read_behind, wrong_address};
+use crate::places::{COMPLETE_SIZE, EXPEDITED_AT, NORMAL_AT, NORMAL_LEAST, SDO_LEAST};
+use mailbox::sdo::SdoHeader;
 use wire::refusal::Refusal;
 
 fn expedited(size: usize, unused: u8) -> Verdict
@@ -53,28 +54,25 @@ fn normal(s: &[u8], length: u16, n: u32) -> Verdict
     Verdict::SegmentsFollow
 }
 
-fn upload(s: &[u8], h: Headers, n: u32) -> Verdict
+fn upload(s: &[u8], h: Headers<SdoHeader>, n: u32) -> Verdict
     ensures { result ≡ upload_of s.now h n }
 {
-    if h.sdo.expedited_transfer {
-        return expedited(s.len(), h.sdo.size);
+    if h.header.expedited_transfer {
+        return expedited(s.len(), h.header.size);
     }
     normal(s, h.mailbox.length, n)
 }
 
 // Judges the first reply to an upload of an index and sub-index into a buffer of n bytes.
-#[tactic(auto, using(crate::proofs::InOrder::order), unfolding(crate::specs::Upload::judge_upload, crate::specs::Reply::reply_to))]
+#[tactic(auto, using(crate::proofs::InOrder::order), unfolding(crate::specs::Upload::judge_upload, crate::specs::Reply::reply_to, crate::specs::Headers::read_headers))]
 pub fn judge_upload(s: &[u8], index: u16, sub: u8, n: u32) -> Verdict
     ensures { result ≡ judge_upload index sub n s.now }
 {
-    let read = read_headers(s);
-    match read {
-        HeadersRead::Undecodable => Verdict::Refused(Refusal::Undecodable),
-        HeadersRead::Emergency => emergency(s),
-        HeadersRead::Headers(h) => {
-            let sdo = h.sdo;
-            let command = sdo.command;
-            if u8::from(command) == 4 {
+    match read_behind::<SdoHeader>(s, SDO_LEAST) {
+        Err(_) => Verdict::Refused(Refusal::Undecodable),
+        Ok(None) => emergency(s),
+        Ok(Some(h)) => {
+            if u8::from(h.header.command) == 4 {
                 return abort(s);
             }
             if wrong_address(h, index, sub) {

@@ -8,6 +8,7 @@ use native.Mathlib.Omega.{arith}
 use borrow.Author.Tests.{le-ltb, ltb-false}
 use lib.Dec.{ltb, eqb, lit≤}
 use lib.ListN.{length}
+use Rattle.std.specs.Prelude as rust
 use Rattle.std.specs.Prelude.{Result, Ok, Err}
 use Rattle.wire.specs.declared.refusal.Refusal.{Refusal}
 use Rattle.wire.specs.declared.refusal.Refusal.TheVariants.{Undecodable}
@@ -22,8 +23,6 @@ use Rattle.mailbox.specs.Headers.{read_mailbox_header, mailbox_header_of, read_c
 use Rattle.mailbox.specs.declared.MailboxHeader.{MailboxHeader}
 use Rattle.mailbox.specs.declared.numbers.MailboxType.{MailboxType}
 use Rattle.mailbox.specs.declared.coe.CoeHeader.{CoeHeader}
-use Rattle.mailbox.specs.declared.sdo.SdoHeader.{SdoHeader}
-use Rattle.mailbox.specs.declared.segment.SdoHeaderSegmented.{SdoHeaderSegmented}
 use Rattle.mailbox.specs.declared.information.SdoInfoHeader.{SdoInfoHeader}
 use Rattle.mailbox.specs.declared.numbers.CoeService.{CoeService}
 use Rattle.mailbox.specs.declared.numbers.CoeCommand.{CoeCommand}
@@ -31,13 +30,10 @@ use Rattle.mailbox.specs.declared.numbers.SdoInfoOpCode.{SdoInfoOpCode}
 use Rattle.judge.specs.Answers.{answer_of, one_of}
 use Rattle.judge.specs.Headers.{on_header, on_front, read_front, read_headers, read_segment_headers, read_information_headers}
 use Rattle.judge.specs.Alarm.{message_in, emergency_in}
+use Rattle.judge.specs.declared.headers.Headers.{Headers}
 use Rattle.judge.specs.declared.Verdict.{Verdict}
 use Rattle.judge.specs.declared.Verdict.TheVariants.{Refused, Emergency}
 use Rattle.judge.specs.declared.headers.Front.{Front}
-use Rattle.judge.specs.declared.headers.FrontRead.TheVariants as FrontRead
-use Rattle.judge.specs.declared.headers.HeadersRead.{HeadersRead}
-use Rattle.judge.specs.declared.headers.SegmentHeadersRead.{SegmentHeadersRead}
-use Rattle.judge.specs.declared.headers.InformationHeadersRead.{InformationHeadersRead}
 use Rattle.promises.specs.Finding.{Finding, refuse, emergency}
 use Rattle.promises.specs.Names.{numbers, types, services, specifiers, operations}
 use Rattle.promises.specs.Rules.{under, at, unlisted}
@@ -69,18 +65,13 @@ operation_look n = look names.operation_number Ok (Err Undecodable) n names.oper
 abbrev pub front_of : MailboxHeader → CoeHeader → Front
 front_of m c = record { mailbox = m; service = c.service }
 
-abbrev pub sdo_in : Front → Result SdoHeader Refusal → HeadersRead
-sdo_in h r =
-    on_header r HeadersRead.Undecodable λ d. HeadersRead.Headers (record { mailbox = h.mailbox; service = h.service; sdo = d })
+abbrev pub header_in : {H : Type 0} → Front → Result H Refusal → Result (rust.Option (Headers H)) Refusal
+header_in h r =
+    on_header r (Err Undecodable) λ d. Ok (rust.Some (record { mailbox = h.mailbox; service = h.service; header = d }))
 
-abbrev pub segment_in : Front → Result SdoHeaderSegmented Refusal → SegmentHeadersRead
-segment_in h r =
-    on_header r SegmentHeadersRead.Undecodable λ g.
-    SegmentHeadersRead.Headers (record { mailbox = h.mailbox; service = h.service; segment = g })
-
-abbrev pub information_in : MailboxHeader → CoeHeader → Result SdoInfoHeader Refusal → InformationHeadersRead
+abbrev pub information_in : MailboxHeader → CoeHeader → Result SdoInfoHeader Refusal → Result (Headers SdoInfoHeader) Refusal
 information_in m c r =
-    on_header r InformationHeadersRead.Undecodable λ i. InformationHeadersRead.Headers (record { mailbox = m; service = c.service; information = i })
+    on_header r (Err Undecodable) λ i. Ok (record { mailbox = m; service = c.service; header = i })
 
 nothing_made : {H : Type 0} (none : H) (a : Result MailboxHeader Refusal) (b : Result CoeHeader Refusal) (make : MailboxHeader → CoeHeader → H)
     → ((m : MailboxHeader) (c : CoeHeader) → make m c ≡ none)
@@ -95,13 +86,13 @@ unless_one alarmed c other = pick (eqb (names.service_number c.service) 1) alarm
 
 -- what is done with the front is done behind its two headers
 module _ {H : Type 0} (none alarmed : H) (f : Front → H) where
-  picked : (b : Bool) (h : Front) → on_front (pick b FrontRead.Emergency (FrontRead.Front h)) none alarmed f ≡ pick b alarmed (f h)
+  picked : (b : Bool) (h : Front) → on_front (pick b (Ok rust.None) (Ok (rust.Some h))) none alarmed f ≡ pick b alarmed (f h)
   picked true h = refl
   picked false h = refl
 
   behind_front : (a : Result MailboxHeader Refusal) (b : Result CoeHeader Refusal)
       → on_front
-      (on_header a FrontRead.Undecodable λ m. on_header b FrontRead.Undecodable λ c. unless_one FrontRead.Emergency c (FrontRead.Front (front_of m c)))
+      (on_header a (Err Undecodable) λ m. on_header b (Err Undecodable) λ c. unless_one (Ok rust.None) c (Ok (rust.Some (front_of m c))))
       none alarmed f
       ≡ on_header a none λ m. on_header b none λ c. unless_one alarmed c (f (front_of m c))
   behind_front (Err r) b = refl
@@ -154,25 +145,25 @@ module _ (s : List ℕ) where
         (behind_front none alarmed (λ f. make f q) (map_ok (mailbox_header_of s) (names.type_of (the mailbox_type s))) (map_ok coe_header_of (names.service_of (the service s)))))
 
   pub sdo_read : read_headers s
-      ≡ pick (under 12 s) HeadersRead.Undecodable
-      (in_reply HeadersRead.Undecodable λ m c.
-      unless_one HeadersRead.Emergency c (sdo_in (front_of m c) (map_ok (sdo_header_of s) (names.command_of (the specifier s)))))
+      ≡ pick (under 12 s) (Err Undecodable)
+      (in_reply (Err Undecodable) λ m c.
+      unless_one (Ok rust.None) c (header_in (front_of m c) (map_ok (sdo_header_of s) (names.command_of (the specifier s)))))
   unfolding read_headers read_sdo_header
-  sdo_read = read_behind_front 12 (omega arith) HeadersRead.Undecodable (Err Undecodable) _ HeadersRead.Emergency sdo_in
+  sdo_read = read_behind_front 12 (omega arith) (Err Undecodable) (Err Undecodable) _ (Ok rust.None) header_in
 
   pub segment_read : read_segment_headers s
-      ≡ pick (under 9 s) SegmentHeadersRead.Undecodable
-      (in_reply SegmentHeadersRead.Undecodable λ m c.
-      unless_one SegmentHeadersRead.Emergency c (segment_in (front_of m c) (map_ok (segmented_of s) (names.command_of (the specifier s)))))
+      ≡ pick (under 9 s) (Err Undecodable)
+      (in_reply (Err Undecodable) λ m c.
+      unless_one (Ok rust.None) c (header_in (front_of m c) (map_ok (segmented_of s) (names.command_of (the specifier s)))))
   unfolding read_segment_headers read_segmented
   segment_read =
-      read_behind_front 9 (omega arith) SegmentHeadersRead.Undecodable (Err Undecodable) _ SegmentHeadersRead.Emergency segment_in
+      read_behind_front 9 (omega arith) (Err Undecodable) (Err Undecodable) _ (Ok rust.None) header_in
 
   pub information_read : read_information_headers s
-      ≡ pick (under 12 s) InformationHeadersRead.Undecodable
-      (in_reply InformationHeadersRead.Undecodable λ m c. information_in m c (map_ok (sdo_info_of s) (names.operation_of (the operation s))))
+      ≡ pick (under 12 s) (Err Undecodable)
+      (in_reply (Err Undecodable) λ m c. information_in m c (map_ok (sdo_info_of s) (names.operation_of (the operation s))))
   unfolding read_information_headers read_sdo_info
-  information_read = read_in_turn 12 (omega arith) InformationHeadersRead.Undecodable (Err Undecodable) _ information_in (λ m c. refl)
+  information_read = read_in_turn 12 (omega arith) (Err Undecodable) (Err Undecodable) _ information_in (λ m c. refl)
 
   -- "Under 12 bytes, or an unlisted type, service ..": of any least length, and whatever is made of the first two headers
   module _ (least : ℕ) {H K : Type 0} (on : H → (K → Verdict) → Verdict) (f : K → Verdict) (none : H) (refused : on none f ≡ Refused Undecodable) where

@@ -8,16 +8,18 @@ use native.Mathlib.Omega.{arith}
 use borrow.Author.Tests.{eqb-true, eqb-false, ltb-true, ltb-false, lt-ltb, le-ltb}
 use lib.Dec.{ltb, leb, eqb}
 use lib.ListN.{length}
-use Rattle.std.specs.Prelude.{Ok, Some, None}
+use Rattle.std.specs.Prelude.{Ok, Err, Some, None}
 use Rattle.wire.specs.Words.{pick, both, first_of, map_ok}
 use Rattle.wire.proofs.Cases.{by}
-use Rattle.wire.specs.declared.refusal.Refusal.TheVariants.{WrongReply, MissingBytes}
+use Rattle.wire.specs.declared.refusal.Refusal.TheVariants.{Undecodable, WrongReply, MissingBytes}
 use Rattle.mailbox.specs.Fields.{the, length_field, mailbox_type, expedited, size, specifier, index, sub_index, last_segment, unused_count, operation, incomplete}
 use Rattle.mailbox.specs.Numbers.{command_number}
 use Rattle.mailbox.specs.Headers.{sdo_header_of, segmented_of, sdo_info_of}
 use Rattle.mailbox.specs.declared.numbers.MailboxType.{MailboxType}
 use Rattle.mailbox.specs.declared.numbers.CoeService.{CoeService}
 use Rattle.mailbox.specs.declared.numbers.CoeCommand.{CoeCommand}
+use Rattle.mailbox.specs.declared.sdo.SdoHeader.{SdoHeader}
+use Rattle.mailbox.specs.declared.segment.SdoHeaderSegmented.{SdoHeaderSegmented}
 use Rattle.judge.specs.Answers.{answer_of}
 use Rattle.judge.specs.Headers.{wrong_type, wrong_address}
 use Rattle.judge.specs.Alarm.{abort_in}
@@ -25,20 +27,17 @@ use Rattle.judge.specs.Chunk.{lacking, chunk_at, on_chunk}
 use Rattle.judge.specs.Reply.{on_headers, in_order, reply_to}
 use Rattle.judge.specs.Download.{download_of, judge_download}
 use Rattle.judge.specs.Upload.{expedited_of, whole_of, normal_of, upload_of, judge_upload}
-use Rattle.judge.specs.Segment.{chunk_length, segment_of, on_segment_headers, judge_segment}
+use Rattle.judge.specs.Segment.{chunk_length, segment_of, judge_segment}
 use Rattle.judge.specs.Information.{fragment_at, fragment_of, on_information_headers, judge_list}
+use Rattle.judge.specs.declared.headers.Headers.{Headers}
 use Rattle.judge.specs.declared.Verdict.{Verdict}
 use Rattle.judge.specs.declared.Verdict.TheVariants.{Refused, Segment, Fragment}
-use Rattle.judge.specs.declared.headers.Headers.{Headers}
-use Rattle.judge.specs.declared.headers.HeadersRead.TheVariants as HeadersRead
-use Rattle.judge.specs.declared.headers.SegmentHeadersRead.TheVariants as SegmentHeadersRead
-use Rattle.judge.specs.declared.headers.InformationHeadersRead.TheVariants as InformationHeadersRead
 use Rattle.transfer.specs.Judgement.{judge_reply}
 use Rattle.transfer.specs.declared.due.Reply.TheVariants as reply
 use Rattle.promises.specs.Finding.{Finding, refuse, aborted, done, then_request, then_reply}
 use Rattle.promises.specs.Rules.{Rule, under, from, fewer_from, at, is_set, sdo, addressed, download, expedited_upload, other_upload, segment_chunk, segment_place, segment, chunk_place, information, rules, JudgedByRules}
 use Rattle.promises.proofs.Lines.{Tells, line, guarded, any_of}
-use Rattle.promises.proofs.Decoded.{front_of, information_decoded, sdo_decoded, in_turn, sdo_in, sdo_read, segment_in, segment_read, information_in, information_read}
+use Rattle.promises.proofs.Decoded.{front_of, information_decoded, sdo_decoded, in_turn, header_in, sdo_read, segment_read, information_in, information_read}
 
 -- ---- tests that the two say differently
 
@@ -85,19 +84,19 @@ module _ (s : List ℕ) where
   abort_lines k ek wrong own p = rw ek (guarded s (eqb (the specifier s) 4) (under 16 s) _ _ (pick wrong (Refused WrongReply) own) p)
 
   -- rules 1 to 4, and the kind's own behind them
-  module _ (i b : ℕ) (f : Headers → Verdict) (kind : List Rule) where
+  module _ (i b : ℕ) (f : Headers SdoHeader → Verdict) (kind : List Rule) where
     reply_told : ((t : MailboxType) (v : CoeService) (k : CoeCommand)
         → Tells s
         (on_headers s
-        (in_turn s HeadersRead.Undecodable (λ m c. sdo_in (front_of m c) (map_ok (sdo_header_of s) (Ok k))) (Ok t) (Ok v))
+        (in_turn s (Err Undecodable) (λ m c. header_in (front_of m c) (map_ok (sdo_header_of s) (Ok k))) (Ok t) (Ok v))
         f)
         (first_of kind))
         → Tells s (reply_to i b s f) (first_of (sdo 12 s ++ addressed i b s ++ kind))
     unfolding first_of reply_to wrong_address wrong_type answer_of
     reply_told p =
         rw (sdo_read s)
-        (sdo_decoded s 12 (on_headers s) _ HeadersRead.Undecodable refl HeadersRead.Emergency refl
-        (λ m c k. sdo_in (front_of m c) (map_ok (sdo_header_of s) k)) (λ m c. refl)
+        (sdo_decoded s 12 (on_headers {H = SdoHeader} s) _ (Err Undecodable) refl (Ok None) refl
+        (λ m c k. header_in (front_of m c) (map_ok (sdo_header_of s) k)) (λ m c. refl)
         λ t v k et ek.
         abort_lines k ek _ _
         (rw et
@@ -142,8 +141,8 @@ module _ (s : List ℕ) where
   unfolding first_of judge_segment wrong_type segment_of answer_of
   segment_told earlier n =
       rw (segment_read s)
-      (sdo_decoded s 9 (on_segment_headers s) _ SegmentHeadersRead.Undecodable refl SegmentHeadersRead.Emergency refl
-      (λ m c k. segment_in (front_of m c) (map_ok (segmented_of s) k)) (λ m c. refl)
+      (sdo_decoded s 9 (on_headers {H = SdoHeaderSegmented} s) _ (Err Undecodable) refl (Ok None) refl
+      (λ m c k. header_in (front_of m c) (map_ok (segmented_of s) k)) (λ m c. refl)
       λ t v k et ek.
       abort_lines k ek _ _
       (rw (et, chunk_length_lem (the length_field s) (the unused_count s))
@@ -167,7 +166,7 @@ module _ (s : List ℕ) where
   information_told begun earlier n =
       let k = the length_field s - 8 in
       rw (information_read s)
-      (information_decoded s 12 on_information_headers _ InformationHeadersRead.Undecodable refl (λ m c o. information_in m c (map_ok (sdo_info_of s) o))
+      (information_decoded s 12 on_information_headers _ (Err Undecodable) refl (λ m c o. information_in m c (map_ok (sdo_info_of s) o))
       (λ m c. refl) λ t v o eo.
       rw (eo, other_way (eqb (the operation s) 2), fragment_place begun)
       (line s (not (eqb (the operation s) 2)) _ _

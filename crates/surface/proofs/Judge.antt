@@ -12,24 +12,23 @@ use Rattle.wire.specs.declared.refusal.Refusal.{Refusal}
 use Rattle.wire.specs.declared.refusal.Refusal.TheVariants.{Undecodable}
 use Rattle.wire.specs.Words.{pick, either, first_of, map_ok}
 use Rattle.wire.proofs.Cases.{by, either_true, either_false}
-use Rattle.wire.specs.declared.refusal.Refusal.TheVariants.{Undecodable}
 use Rattle.mailbox.specs.Fields.{the, mailbox_type, service, operation}
 use Rattle.mailbox.specs.Numbers as names
 use Rattle.mailbox.specs.Headers.{sdo_info_of}
 use Rattle.mailbox.specs.declared.numbers.MailboxType.{MailboxType}
 use Rattle.mailbox.specs.declared.numbers.CoeService.{CoeService}
 use Rattle.mailbox.specs.declared.numbers.SdoInfoOpCode.{SdoInfoOpCode}
+use Rattle.mailbox.specs.declared.information.SdoInfoHeader.{SdoInfoHeader}
 use Rattle.judge.specs.Answers.{answer_of, one_of}
 use Rattle.judge.specs.Storage.{stored}
 use Rattle.judge.specs.Download.{judge_download}
 use Rattle.judge.specs.Upload.{judge_upload}
 use Rattle.judge.specs.Segment.{judge_segment}
 use Rattle.judge.specs.Information.{fragment_at, fragment_of, on_information_headers, judge_list}
+use Rattle.judge.specs.declared.headers.Headers.{Headers}
 use Rattle.judge.specs.declared.Answer.{Answer}
 use Rattle.judge.specs.declared.Verdict.{Verdict}
 use Rattle.judge.specs.declared.Verdict.TheVariants.{Refused, Segment, Fragment, ReplyDue}
-use Rattle.judge.specs.declared.headers.InformationHeaders.{InformationHeaders}
-use Rattle.judge.specs.declared.headers.InformationHeadersRead.TheVariants as InformationHeadersRead
 use Rattle.judge.proofs.Cases.{Alarming, upload_cases, download_cases, segment_cases, fragment_rule}
 use Rattle.judge.proofs.Laid.{laid_nil}
 use Rattle.judge.proofs.Payload.{part_length}
@@ -74,7 +73,7 @@ module _ (kind : ℕ) (begun : Bool) (earlier n : ℕ) (s : List ℕ) where
   unfolding told_of answer_of besides
   refused = refl
 
-  fragment : eqb (the operation s) 2 ≡ true → (h : InformationHeaders) → Told kind s (fragment_of (length s) h (fragment_at begun) earlier n)
+  fragment : eqb (the operation s) 2 ≡ true → (h : Headers SdoInfoHeader) → Told kind s (fragment_of (length s) h (fragment_at begun) earlier n)
   unfolding told_of answer_of besides
   fragment two h = fragment_rule (Told kind s) s earlier n refl refl h (fragment_at begun) chunk
     where
@@ -86,13 +85,13 @@ module _ (kind : ℕ) (begun : Bool) (earlier n : ℕ) (s : List ℕ) where
   unfolding told_of answer_of besides begun_by
   due other = rw (other, either_false (eqb kind 8))
 
-  abbrev judged_as : InformationHeaders → Verdict
-  judged_as h = pick (eqb (names.operation_number h.information.op_code) 2) (fragment_of (length s) h (fragment_at begun) earlier n) ReplyDue
+  abbrev judged_as : Headers SdoInfoHeader → Verdict
+  judged_as h = pick (eqb (names.operation_number h.header.op_code) 2) (fragment_of (length s) h (fragment_at begun) earlier n) ReplyDue
 
   decoded : (a : Result MailboxType Refusal) (b : Result CoeService Refusal) {q : Result SdoInfoOpCode Refusal} {among : Bool}
       → Look names.operation_number Ok (Err Undecodable) (the operation s) q among
       → Told kind s
-      (on_information_headers (in_turn s InformationHeadersRead.Undecodable (λ m c. information_in m c (map_ok (sdo_info_of s) q)) a b) judged_as)
+      (on_information_headers (in_turn s (Err Undecodable) (λ m c. information_in m c (map_ok (sdo_info_of s) q)) a b) judged_as)
   decoded (Err r) b l = refused
   decoded (Ok t) (Err r) l = refused
   decoded (Ok t) (Ok v) (missing e m) = rw e refused
