@@ -4,12 +4,13 @@ use mathlib.Core.Path.{◌≡◌, refl}
 use mathlib.Core.Bool.{Bool, true, false}
 use mathlib.Core.List.{List}
 use Prim.Native.Nat.{ℕ}
-use borrow.Author.Tests.{eq-eqb, ne_eqb}
+use lib.Dec.{eqb}
 use Rattle.std.specs.Prelude.{Result, Ok, Err, Option, Some, None}
 use Rattle.wire.specs.declared.refusal.Refusal.{Refusal}
 use Rattle.wire.specs.declared.refusal.Refusal.TheVariants.{Undecodable, WrongReply}
 use Rattle.mailbox.specs.Numbers.{command_number}
 use Rattle.mailbox.specs.declared.numbers.CoeCommand.{CoeCommand}
+use Rattle.mailbox.specs.declared.numbers.CoeCommand.TheVariants.{Abort}
 use Rattle.judge.specs.Alarm.{emergency_in, abort_in}
 use Rattle.judge.specs.Reply.{on_headers, in_order}
 use Rattle.judge.specs.Headers.{on_front, on_header}
@@ -18,19 +19,24 @@ use Rattle.judge.specs.declared.headers.Headers.{Headers}
 use Rattle.judge.specs.declared.Verdict.{Verdict}
 use Rattle.judge.specs.declared.Verdict.TheVariants.{Refused}
 
-module _ (s : List ℕ) (command : CoeCommand) (number : ℕ) (e : number ≡ command_number command) (own : Verdict) where
-  pub stopped : (wrong : Bool) (v : Verdict) → number ≡ 4 → v ≡ abort_in s → v ≡ in_order s command wrong own
-  unfolding in_order
-  stopped wrong v four a = rw (← e, eq-eqb _ _ four, a)
+-- an abort's number is 4, and no other's
+no_abort : (command : CoeCommand) → (command ≡ Abort → ⊥) → eqb (command_number command) 4 ≡ false
+no_abort Abort n = absurd (n refl)
+no_abort other n = refl
 
-  module _ (other : number ≡ 4 → ⊥) (w wrong : Bool) (same : w ≡ wrong) where
+module _ (s : List ℕ) (command : CoeCommand) (own : Verdict) where
+  pub stopped : (wrong : Bool) (v : Verdict) → command ≡ Abort → v ≡ abort_in s → v ≡ in_order s command wrong own
+  unfolding in_order
+  stopped wrong v is a = rw (is, a)
+
+  module _ (other : command ≡ Abort → ⊥) (w wrong : Bool) (same : w ≡ wrong) where
     pub astray : w ≡ true → Refused WrongReply ≡ in_order s command wrong own
     unfolding in_order
-    astray t = rw (← e, ne_eqb _ _ other, ← same, t)
+    astray t = rw (no_abort command other, ← same, t)
 
     pub heard : w ≡ false → (v : Verdict) → v ≡ own → v ≡ in_order s command wrong own
     unfolding in_order
-    heard f v o = rw (← e, ne_eqb _ _ other, ← same, f, o)
+    heard f v o = rw (no_abort command other, ← same, f, o)
 
 -- what headers were read
 module _ {H : Type 0} (s : List ℕ) (r q : Result (Option (Headers H)) Refusal) (e : r ≡ q) (f : Headers H → Verdict) where

@@ -1,4 +1,5 @@
 pub mod Laid
+pub mod Listed
 pub mod Cases
 pub mod InOrder
 pub mod Payload

@@ -6,6 +6,7 @@ use crate::Verdict;
 use crate::alarm::{abort, emergency};
 use crate::headers::{read_behind, wrong_address};
 use crate::places::{DOWNLOAD_LEAST, SDO_LEAST};
+use mailbox::numbers::CoeCommand;
 use mailbox::sdo::SdoHeader;
 use wire::refusal::Refusal;
 
@@ -28,7 +29,7 @@ pub fn judge_download(s: &[u8], index: u16, sub: u8) -> Verdict
         Err(_) => Verdict::Refused(Refusal::Undecodable),
         Ok(None) => emergency(s),
         Ok(Some(h)) => {
-            if u8::from(h.header.command) == 4 {
+            if h.header.command == CoeCommand::Abort {
                 return abort(s);
             }
             if wrong_address(h, index, sub) {

@@ -4,7 +4,7 @@ ghost use Rattle.judge.specs.Headers.{read_front, read_behind, read_information_
 
 use mailbox::coe::CoeHeader;
 use mailbox::information::SdoInfoHeader;
-use mailbox::numbers::CoeService;
+use mailbox::numbers::{CoeService, MailboxType};
 use mailbox::sdo::SdoHeader;
 use mailbox::{Header, MailboxHeader};
 use wire::refusal::Refusal;
@@ -38,7 +38,7 @@ fn read_front(s: &[u8], least: usize) -> Result<Option<Front>, Refusal>
         return Err(Refusal::Undecodable);
     };
     let service = header.service;
-    if u8::from(service) == 1 {
+    if service == CoeService::Emergency {
         return Ok(None);
     }
     Ok(Some(Front { mailbox, service }))
@@ -90,7 +90,7 @@ pub(crate) fn read_information_headers(s: &[u8]) -> Result<Headers<SdoInfoHeader
 pub(crate) fn wrong_type(mailbox: MailboxHeader) -> bool
     ensures { result ≡ wrong_type mailbox }
 {
-    u8::from(mailbox.mailbox_type) != 3
+    mailbox.mailbox_type != MailboxType::Coe
 }
 
 // Rule 4 of an upload or a download.

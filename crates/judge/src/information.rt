@@ -7,6 +7,7 @@ use crate::chunk::chunk_at;
 use crate::headers::{Headers, read_information_headers};
 use crate::places::{FIRST_FRAGMENT_AT, LATER_FRAGMENT_AT};
 use mailbox::information::SdoInfoHeader;
+use mailbox::numbers::SdoInfoOpCode;
 use wire::refusal::Refusal;
 
 fn fragment_at(begun: bool) -> u8
@@ -44,7 +45,7 @@ pub fn judge_list(s: &[u8], begun: bool, earlier: u32, n: u32) -> Verdict
     match read_information_headers(s) {
         Err(_) => Verdict::Refused(Refusal::Undecodable),
         Ok(h) => {
-            if u8::from(h.header.op_code) == 2 {
+            if h.header.op_code == SdoInfoOpCode::GetObjectDescriptionListResponse {
                 return fragment(s.len(), h, fragment_at(begun), earlier, n);
             }
             Verdict::ReplyDue

@@ -7,6 +7,7 @@ use crate::alarm::{abort, emergency};
 use crate::chunk::chunk_at;
 use crate::headers::{Headers, read_behind, wrong_type};
 use crate::places::{SEGMENT_AT, SEGMENT_LEAST};
+use mailbox::numbers::CoeCommand;
 use mailbox::segment::SdoHeaderSegmented;
 use wire::refusal::Refusal;
 
@@ -48,7 +49,7 @@ pub fn judge_segment(s: &[u8], earlier: u32, n: u32) -> Verdict
         Err(_) => Verdict::Refused(Refusal::Undecodable),
         Ok(None) => emergency(s),
         Ok(Some(h)) => {
-            if u8::from(h.header.command) == 4 {
+            if h.header.command == CoeCommand::Abort {
                 return abort(s);
             }
             if wrong_type(h.mailbox) {

@@ -7,6 +7,7 @@ use crate::alarm::{abort, emergency};
 use crate::chunk::lacks;
 use crate::headers::{Headers, read_behind, wrong_address};
 use crate::places::{COMPLETE_SIZE, EXPEDITED_AT, NORMAL_AT, NORMAL_LEAST, SDO_LEAST};
+use mailbox::numbers::CoeCommand;
 use mailbox::sdo::SdoHeader;
 use wire::refusal::Refusal;
 
@@ -72,7 +73,7 @@ pub fn judge_upload(s: &[u8], index: u16, sub: u8, n: u32) -> Verdict
         Err(_) => Verdict::Refused(Refusal::Undecodable),
         Ok(None) => emergency(s),
         Ok(Some(h)) => {
-            if u8::from(h.header.command) == 4 {
+            if h.header.command == CoeCommand::Abort {
                 return abort(s);
             }
             if wrong_address(h, index, sub) {

@@ -1,6 +1,7 @@
 -- `read_front` meets its contract: the length, then each header in turn and the service, picks its case of the definition.
-use borrow.Author.Tests.{le-ltb, lt-ltb, eq-eqb, ne_eqb}
+use borrow.Author.Tests.{le-ltb, lt-ltb}
 use Rattle.judge.specs.Headers.{read_front}
+use Rattle.judge.proofs.Listed.{service_1}
 use Rattle.judge.proofs.headers.read_front.Goals as goal
 
 pub returns-then-s-least : goal.returns-then-s-least
@@ -18,12 +19,12 @@ unfolding read_front
 returns-in_default-unpack c =
     simp (le-ltb _ _ c.if-s-least.false, ← c.unpack.ensures, c.in-Ok.is, ← c.unpack-2.ensures, c.in_default-unpack.is)
 
-pub returns-then-from-eq1 : goal.returns-then-from-eq1
+pub returns-then-eq : goal.returns-then-eq
 unfolding read_front
-returns-then-from-eq1 c =
-    simp (le-ltb _ _ c.if-s-least.false, ← c.unpack.ensures, c.in-Ok.is, ← c.unpack-2.ensures, c.in-Ok-unpack.is, ← c.from.ensures, eq-eqb _ _ c.if-from-eq1.true)
+returns-then-eq c =
+    simp (le-ltb _ _ c.if-s-least.false, ← c.unpack.ensures, c.in-Ok.is, ← c.unpack-2.ensures, c.in-Ok-unpack.is, service_1 c.in-Ok-unpack.header.service, ← c.eq.ensures, c.if-eq.true)
 
 pub returns : goal.returns
 unfolding read_front
 returns c =
-    simp (le-ltb _ _ c.if-s-least.false, ← c.unpack.ensures, c.in-Ok.is, ← c.unpack-2.ensures, c.in-Ok-unpack.is, ← c.from.ensures, ne_eqb _ _ c.if-from-eq1.false)
+    simp (le-ltb _ _ c.if-s-least.false, ← c.unpack.ensures, c.in-Ok.is, ← c.unpack-2.ensures, c.in-Ok-unpack.is, service_1 c.in-Ok-unpack.header.service, ← c.eq.ensures, c.if-eq.false)
