@@ -1,5 +1,5 @@
 -- Laws of the run by characters, one for each way that a character goes. Assumes nothing.
-use Rattle.std.specs.Prelude.{Option, Some, None, is_none}
+use Rattle.std.specs.Prelude.{Option, Some, None}
 use Prim.Native.Nat.{ℕ, zero, suc, ◌+◌, ◌*◌, ◌<◌, ◌≤◌}
 use mathlib.Core.Path.{◌≡◌, refl, sym, ap, ◌∙◌}
 use mathlib.Core.Bool.{true, false, true≢false}
@@ -22,7 +22,7 @@ use Rattle.order_text.proofs.Lines.{digit_at, byte_turn}
 use Rattle.order_run.specs.Turns.{is_over, failed, after_frame, kept_frame}
 use Rattle.order_run.specs.Feed.{part, nothing, further, St, st, Did, behind, end_said, end_kept, ended, stopped, fails, put_part, put, after_char, after, Begun, Whole, Starts}
 use Rattle.order_run.specs.declared.digits.Part.{Part}
-use Rattle.order_run.proofs.Parts.{fails_room, fails_not, fails_digit, put_first, put_second}
+use Rattle.order_run.proofs.Parts.{none≢some, some_is, fails_room, fails_not, fails_digit, put_first, put_second}
 use Rattle.order_run.specs.declared.turns.Phase.{Phase}
 use Rattle.order_run.specs.declared.turns.Phase.TheVariants.{Entry}
 
@@ -36,16 +36,6 @@ module _ (s : St) where
   pub end_odd : {h : ℕ} → s.part.half ≡ Some h → (failed s.desk ≡ end_said s) × (s.kept ≡ end_kept s)
   unfolding end_said end_kept
   end_odd e = (sym (rw e), sym (rw e))
-
-pub none≢some : {X : Type 0} {h : ℕ} → ◌≡◌ {A = Option ℕ} None (Some h) → X
-none≢some e = absurd (true≢false (ap is_none e))
-
-some_is : {g h : ℕ} → ◌≡◌ {A = Option ℕ} (Some g) (Some h) → g ≡ h
-some_is {g} e = ap (unwrap_or_zero) e
-  where
-    unwrap_or_zero : Option ℕ → ℕ
-    unwrap_or_zero None = 0
-    unwrap_or_zero (Some h) = h
 
 pub nothing_begun : Begun nothing
 nothing_begun = record { room = omega arith; digit = λ h e. absurd (none≢some e) }

@@ -1,22 +1,32 @@
 -- Laws of a line as its digits come. Assumes nothing.
-use Rattle.std.specs.Prelude.{Some, None}
+use Rattle.std.specs.Prelude.{Some, None, Option, is_none}
 use Prim.Native.Nat.{ℕ, ◌+◌, ◌*◌, ◌<◌, ◌≤◌}
-use mathlib.Core.Path.{◌≡◌, refl, sym}
-use mathlib.Core.Bool.{true, false}
+use mathlib.Core.Path.{◌≡◌, refl, sym, ap, ◌∙◌}
+use mathlib.Core.Bool.{true, false, true≢false}
 use mathlib.Core.List.{List}
 use native.Mathlib.Omega.{arith}
 use lib.Dec.{ltb, leb}
 use lib.ListN.{length, get_or, set, take, length-take}
 use lib.Seq.{paste-zero, get_or-take}
-use borrow.Author.Tests.{lt-ltb, le-ltb, ltb-true, ltb-false}
+use borrow.Author.Tests.{lt-ltb, le-ltb, ltb-true, ltb-false, lt-leb, le-leb, leb-true, leb-false}
 use Rattle.wire.proofs.Cases.{by}
 use Rattle.order_text.specs.Digits.{digit_of, byte_of}
 use Rattle.order_text.specs.Lines.{has_bad, bytes_of}
 use Rattle.order_text.proofs.Digits.{byte_high, byte_low}
 use Rattle.order_text.proofs.Lines.{digit_at, byte_turn}
 use Rattle.order_text.proofs.Refused.{none_bad}
-use Rattle.order_run.specs.Feed.{part, fails, put_part, put_frame, Whole}
+use Rattle.order_run.specs.Feed.{part, fails, byte_in, put_part, put_frame, Whole}
 use Rattle.order_run.specs.declared.digits.Part.{Part}
+
+pub none≢some : {X : Type 0} {h : ℕ} → ◌≡◌ {A = Option ℕ} None (Some h) → X
+none≢some e = absurd (true≢false (ap is_none e))
+
+pub some_is : {g h : ℕ} → ◌≡◌ {A = Option ℕ} (Some g) (Some h) → g ≡ h
+some_is {g} e = ap (unwrap_or_zero) e
+  where
+    unwrap_or_zero : Option ℕ → ℕ
+    unwrap_or_zero None = 0
+    unwrap_or_zero (Some h) = h
 
 module _ (p : Part) (c : ℕ) where
   pub fails_digit : 15 < digit_of c → fails p c ≡ true
@@ -41,6 +51,19 @@ module _ (p : Part) (d : ℕ) (f : List ℕ) where
   put_second h e = (sym (rw e), sym (rw e))
 
 -- ---- whole bytes
+
+module _ (a b : ℕ) where
+  pub no_byte : 255 < byte_of a b → ◌≡◌ {A = Option ℕ} None (byte_in a b)
+  no_byte h = sym (rw (lt-leb (byte_of a b) 255 h))
+
+  pub one_byte : byte_of a b ≤ 255 → ◌≡◌ {A = Option ℕ} (Some (byte_of a b)) (byte_in a b)
+  one_byte h = sym (rw (le-leb (byte_of a b) 255 h))
+
+  pub is_byte : {x : ℕ} → ◌≡◌ {A = Option ℕ} (byte_in a b) (Some x) → (x ≡ byte_of a b) × (byte_of a b ≤ 255)
+  is_byte e =
+      by (leb (byte_of a b) 255)
+      (λ h. (sym (some_is (one_byte (leb-true (byte_of a b) 255 h) ∙ e)), leb-true (byte_of a b) 255 h))
+      (λ h. none≢some (no_byte (leb-false (byte_of a b) 255 h) ∙ e))
 
 both_digits : (a b : ℕ) → byte_of a b ≤ 255 → (digit_of a ≤ 15) × (digit_of b ≤ 15)
 both_digits a b h =

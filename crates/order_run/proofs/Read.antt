@@ -4,7 +4,7 @@ use mathlib.Core.Path.{◌≡◌, refl, sym, ap, ◌∙◌}
 use mathlib.Core.List.{List}
 use native.Mathlib.Omega.{arith}
 use Rattle.std.specs.Prelude.{true, false, Some, Result, Ok, Err}
-use borrow.Author.Tests.{eq-eqb, ne_eqb}
+use borrow.Author.Tests.{eq-eqb}
 use Rattle.wire.specs.Words.{pick}
 use Rattle.wire.specs.declared.refusal.Refusal.{Refusal}
 use Rattle.wire.specs.declared.refusal.Refusal.TheVariants.{NoSuchSeat, SeatTaken, SeatEmpty, NotAtHead, OtherDue, BadOrder, BufferLength, Undecodable, WrongReply, TooLarge, MissingBytes, LengthField, BudgetSpent}

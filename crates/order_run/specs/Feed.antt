@@ -6,7 +6,7 @@ use Rattle.wire.specs.Words.{pick}
 use Rattle.wire.specs.Store.{laid}
 use Rattle.desk.specs.Record.{empty_at, Good}
 use Rattle.desk.specs.declared.Desk.{Desk}
-use Rattle.order_text.specs.Digits.{digit_of}
+use Rattle.order_text.specs.Digits.{digit_of, byte_of}
 use Rattle.order_text.specs.Lines.{has_bad, bytes_of}
 use Rattle.order_run.specs.Turns.{Said, is_over, failed, after_frame, kept_frame, after_all}
 use Rattle.order_run.specs.Printed.{printed}
@@ -129,6 +129,10 @@ further p more = part (p.count + more) p.half
 pub record Table (t : List ℕ) : Type 0 where
   pub long : length t ≡ 256
   pub digits : (c : ℕ) → c < 256 → get_or t c 0 ≡ digit_of c
+
+-- the byte of two digits
+abbrev pub byte_in : ℕ → ℕ → Option ℕ
+byte_in a b = pick (leb (byte_of a b) 255) (Some (byte_of a b)) None
 
 -- r bytes that the text t begins with, stored in the frame f from a place on
 pub record Whole (t : List ℕ) (at : ℕ) (f : List ℕ) (r : ℕ) (f' : List ℕ) : Type 0 where

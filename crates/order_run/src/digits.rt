@@ -1,7 +1,6 @@
 // A line as its digits come: the bytes so far stand at the front of the frame.
 ghost use Rattle.std.specs.Prelude.{◌≡◌, None, ◌+◌, ◌≤◌, ◌<◌, length, drop};
-ghost use Rattle.order_text.specs.Digits.{byte_of};
-ghost use Rattle.order_run.specs.Feed.{nothing as Feed·nothing, begun, further as Feed·further, fails, put_part, put_frame, Begun, Table, Whole};
+ghost use Rattle.order_run.specs.Feed.{nothing as Feed·nothing, begun, further as Feed·further, fails, byte_in, put_part, put_frame, Begun, Table, Whole};
 
 // "at most 1,486 bytes each"
 pub const LONGEST: usize = 1486;
@@ -72,19 +71,16 @@ pub(crate) fn digit_table() -> [u8; 256]
 }
 
 // order_text::byte_of, by the table.
-fn byte_by(table: &[u8; 256], a: u8, b: u8) -> u16
+fn byte_by(table: &[u8; 256], a: u8, b: u8) -> Option<u8>
     requires { Table table.now }
-    ensures { result ≡ byte_of a b }
+    ensures { result ≡ byte_in a b }
 {
     let high = table[a as usize];
     let low = table[b as usize];
-    if 15 < high {
-        return 256;
+    if 15 < high || 15 < low {
+        return None;
     }
-    if 15 < low {
-        return 256;
-    }
-    16 * (high as u16) + (low as u16)
+    Some(16 * high + low)
 }
 
 // The bytes that the text begins with, as far as they have room; answers how many.
@@ -95,16 +91,13 @@ fn pairs(table: &[u8; 256], text: &[u8], frame: &mut [u8], at: usize) -> usize
     ensures { Whole text.now at frame.old result frame.new }
 {
     let most = (text.len() / 2).min(frame.len() - at);
-    let mut k = 0;
-    while k < most {
-        let b = byte_by(table, text[2 * k], text[2 * k + 1]);
-        if 255 < b {
-            break;
-        }
-        frame[at + k] = b as u8;
-        k += 1;
+    for k in 0..most {
+        let Some(b) = byte_by(table, text[2 * k], text[2 * k + 1]) else {
+            return k;
+        };
+        frame[at + k] = b;
     }
-    k
+    most
 }
 
 // The same from a place of the text on, where no byte is begun: how many bytes are taken two digits at a time.

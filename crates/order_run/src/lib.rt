@@ -107,6 +107,7 @@ fn feed_piece(
     let mut phase = run.phase;
     let mut part = run.part;
     let mut printed = 0;
+    // the place is counted by hand: the two loops and the label are asked for, and whole_bytes moves it on by as many digits as it took
     let mut i = 0;
     'lines: while i < text.len() {
         if phase.is_over() {
