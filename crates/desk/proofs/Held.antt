@@ -7,8 +7,8 @@ use native.Mathlib.Omega.{arith}
 use native.Mathlib.Nat.{not-suc-le-zero, le_of_suc-le-suc}
 use borrow.Author.Tests.{lt-ltb, le-ltb, ltb-true, ltb-false}
 use lib.Dec.{eqb, ltb, leb-suc-suc}
-use lib.ListN.{length, take, drop, set, get_or, replicate, length-append, length-map, length-take, length-replicate, replicate-append-replicate}
-use lib.Seq.{set_at, set-append_left, append_snoc, take_at, drop-cons, drop-length, get_or-take, length-take-le}
+use lib.ListN.{length, take, set, get_or, replicate, length-append, length-map, length-take, length-replicate, replicate-append-replicate}
+use lib.Seq.{set_at, set-append_left, append_snoc, take_at, get_or-take, length-take-le}
 use Rattle.std.specs.Prelude.{Option, Some, None}
 use Rattle.std.specs.Option.{is_some}
 use Rattle.std.specs.List.{position, position_or_len}
@@ -55,12 +55,15 @@ pub record Placed (s : ℕ) (l : Line Transfer) (n : ℕ) : Type 0 where
   pub at : n ≡ place_in s l
   pub within : n < length l
 
-pub is_some_place_of : (s : ℕ) (l : Line Transfer) → is_some (place_of s l) ≡ seated s l
+is_some_place_of : (s : ℕ) (l : Line Transfer) → is_some (place_of s l) ≡ seated s l
 is_some_place_of s l = go (seated s l)
   where
     go : (b : Bool) → is_some (pick b (Some (place_in s l)) None) ≡ b
     go true = refl
     go false = refl
+
+pub seated_is : (s : ℕ) (l : Line Transfer) {o : Option ℕ} {b c : Bool} → o ≡ place_of s l → c ≡ is_some o → c ≡ b → seated s l ≡ b
+seated_is s l e f g = sym (is_some_place_of s l) ∙ ap is_some (sym e) ∙ sym f ∙ g
 
 pub placed : (s : ℕ) (l : Line Transfer) (n : ℕ) → Some n ≡ place_of s l → Placed s l n
 placed s l n e = go (seated s l) refl e

@@ -1,6 +1,6 @@
 -- `leaving` meets its contract: 10, 12, else the line closes up behind the seat.
 use borrow.Author.Tests.{lt-ltb, le-ltb}
-use mathlib.Core.Path.{◌≡◌, sym, ◌∙◌}
+use mathlib.Core.Path.{sym, ◌∙◌}
 use Prim.Native.Nat.{◌<◌}
 use native.Mathlib.Omega.{arith}
 use Rattle.line.proofs.Steps.{leave_10, leave_12}
