@@ -1,4 +1,5 @@
-// Rule 1: the headers of a reply, each kind's together; and rule 4, whether they are those of the transfer that was asked.
+// Rule 1: the headers of a reply, each kind's together; and rule 4, whether they are those of the transfer that was asked. No `?` passes a
+// header's refusal on: rule 1 says 20 of every header that is not read, and so do its definitions.
 ghost use Rattle.std.specs.Prelude.{◌≡◌};
 ghost use Rattle.judge.specs.Headers.{read_front, read_behind, read_information_headers, wrong_type, wrong_address};
 

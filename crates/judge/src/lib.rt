@@ -24,10 +24,11 @@ pub use segment::judge_segment;
 pub use storage::store;
 pub use upload::judge_upload;
 
-// A chunk is the reply's len bytes from byte `from` on; sum is the earlier chunks and this one.
+// A chunk is the reply's len bytes from byte `from` on, in no struct of its own, since `store` alone takes both; sum is the earlier chunks
+// and this one.
 #[derive(Clone, Copy, Debug, PartialEq, Eq)]
 pub enum Verdict {
-    // No Result around the rest: a segment of 1,486 bytes would take some forty instructions more, and miss its bound (docs/SPEED.md).
+    // Not a Result around the rest: a segment of 1,486 bytes takes some thirty instructions more then, and more than plain Rust (docs/SPEED.md).
     Refused(Refusal),
     // Its eight bytes as one number. With its fields apart, or an abort's in another order, each judge is more than the compiler puts into
     // its callers, and every reply takes some forty instructions more.

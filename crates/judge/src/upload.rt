@@ -64,7 +64,8 @@ fn upload(s: &[u8], h: Headers<SdoHeader>, n: u32) -> Verdict
     normal(s, h.mailbox.length, n)
 }
 
-// Judges the first reply to an upload of an index and sub-index into a buffer of n bytes.
+// Judges the first reply to an upload of an index and sub-index into a buffer of n bytes. Each judge has these arms: a function of them,
+// with the test of rule 4 and the kind's own rule as closures, would be no shorter.
 #[tactic(auto, using(crate::proofs::InOrder::order), unfolding(crate::specs::Upload::judge_upload, crate::specs::Reply::reply_to, crate::specs::Headers::read_headers))]
 pub fn judge_upload(s: &[u8], index: u16, sub: u8, n: u32) -> Verdict
     ensures { result ≡ judge_upload index sub n s.now }
