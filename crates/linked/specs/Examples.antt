@@ -16,7 +16,8 @@ use Rattle.judge.specs.Segment.{chunk_length, segment_of, judge_segment}
 use Rattle.judge.specs.Information.{fragment_at, fragment_of, judge_list}
 use Rattle.judge.specs.Storage.{stored}
 use Rattle.judge.specs.Examples.{Shown, blank, emergency_with, overtemperature}
-use Rattle.linked.specs.Judging.{unjudged, verdict_for, place_for, begun_by, told_of, went_on, ruling_for, given_by}
+use Rattle.transfer.specs.Judgement.{judge_reply}
+use Rattle.linked.specs.Judging.{asked, told_of, went_on, ruling_for, given_by}
 
 -- 0x1018:01 is asked for, and a buffer of 6 bytes 0xee is lent
 abbrev pub answered : ℕ → ℕ → List ℕ → Shown
@@ -50,5 +51,5 @@ examples =
     ∷ []
 
 pub examples_hold : map (λ (e : Shown × Shown). e.0) examples ≡ map (λ (e : Shown × Shown). e.1) examples
-unfolding read priority_of type_of service_of command_of operation_of read_mailbox_header read_coe_header read_sdo_header read_segmented read_sdo_info answer_of read_front read_headers read_segment_headers read_information_headers wrong_type wrong_address message_in emergency_in abort_in lacking chunk_at in_order reply_to download_of judge_download expedited_of whole_of normal_of upload_of judge_upload chunk_length segment_of judge_segment fragment_at fragment_of judge_list stored unjudged verdict_for place_for begun_by told_of ruling_for
+unfolding read priority_of type_of service_of command_of operation_of read_mailbox_header read_coe_header read_sdo_header read_segmented read_sdo_info answer_of read_front read_headers read_segment_headers read_information_headers wrong_type wrong_address message_in emergency_in abort_in lacking chunk_at in_order reply_to download_of judge_download expedited_of whole_of normal_of upload_of judge_upload chunk_length segment_of judge_segment fragment_at fragment_of judge_list stored judge_reply asked told_of ruling_for
 examples_hold = refl

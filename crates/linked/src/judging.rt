@@ -1,59 +1,40 @@
 // The reply judge without desk and budget. Kinds: 1 upload, 3 download, 4 list not begun, 7 segment, 8 list begun.
 ghost use Rattle.std.specs.Prelude.{◌≡◌};
-ghost use Rattle.linked.specs.Judging.{unjudged, verdict_for, place_for, went_on, goes_on, begun_by, told_of, Judges};
+ghost use Rattle.linked.specs.Judging.{asked, has_begun, place_for, went_on, goes_on, told_of, Judges};
 
 use judge::{Answer, Verdict, answer_of, plain};
+use transfer::due::Reply;
+use wire::refusal::Refusal;
 
-#[tactic(auto, using(wire::proofs::Tests::tests), unfolding(crate::specs::Judging::unjudged))]
-fn is_unjudged(kind: u8) -> bool
-    ensures { result ≡ unjudged kind }
+// What the reply answers, by the number that a host hands in.
+#[tactic(auto, using(wire::proofs::Tests::tests), unfolding(crate::specs::Judging::asked))]
+fn asked(kind: u8, index: u16, sub: u8) -> Option<Reply>
+    ensures { result ≡ asked kind index sub }
 {
-    if kind == 1 {
-        return false;
+    match kind {
+        1 => Some(Reply::Upload { index, sub }),
+        3 => Some(Reply::Download { index, sub }),
+        4 => Some(Reply::Fragment { begun: false }),
+        7 => Some(Reply::Segment),
+        8 => Some(Reply::Fragment { begun: true }),
+        _ => None,
     }
-    if kind == 3 {
-        return false;
-    }
-    if kind == 4 {
-        return false;
-    }
-    if kind == 7 {
-        return false;
-    }
-    if kind == 8 {
-        return false;
-    }
-    true
 }
 
-#[tactic(auto, using(wire::proofs::Tests::tests), unfolding(crate::specs::Judging::verdict_for))]
-fn verdict_for(kind: u8, index: u16, sub: u8, earlier: u32, reply: &[u8], n: u32) -> Verdict
-    ensures { result ≡ verdict_for kind index sub earlier n reply.now }
+fn has_begun(due: Reply) -> bool
+    ensures { result ≡ has_begun due }
 {
-    if kind == 1 {
-        return judge::judge_upload(reply, index, sub, n);
-    }
-    if kind == 3 {
-        return judge::judge_download(reply, index, sub);
-    }
-    if kind == 7 {
-        return judge::judge_segment(reply, earlier, n);
-    }
-    judge::judge_list(reply, kind == 8, earlier, n)
+    matches!(due, Reply::Fragment { begun: true })
 }
 
 // Where the chunk goes: the reply to an upload or a download has no earlier chunks.
-#[tactic(auto, using(wire::proofs::Tests::tests), unfolding(crate::specs::Judging::place_for))]
-fn place_for(kind: u8, earlier: u32) -> usize
-    ensures { result ≡ place_for kind earlier }
+fn place_for(due: Reply, earlier: u32) -> usize
+    ensures { result ≡ place_for due earlier }
 {
-    if kind == 1 {
-        return 0;
+    match due {
+        Reply::Upload { .. } | Reply::Download { .. } => 0,
+        _ => earlier as usize,
     }
-    if kind == 3 {
-        return 0;
-    }
-    earlier as usize
 }
 
 // A reply that is not the last: its number and its chunk, and 1 once a list has begun.
@@ -61,12 +42,9 @@ fn went_on(number: u8, begun: u8, len: u16) -> Answer
     ensures { result ≡ went_on number begun len }
 {
     Answer {
-        number,
         sub: begun,
-        index: 0,
-        code: 0,
         length: len as u32,
-        data: 0,
+        ..plain(number)
     }
 }
 
@@ -79,29 +57,20 @@ fn goes_on(last: bool, answer: Answer, number: u8, begun: u8, len: u16) -> Answe
     went_on(number, begun, len)
 }
 
-#[tactic(auto, using(wire::proofs::Tests::tests), unfolding(crate::specs::Judging::begun_by))]
-fn begun_by(kind: u8) -> u8
-    ensures { result ≡ begun_by kind }
-{
-    if kind == 8 {
-        return 1;
-    }
-    0
-}
-
 #[tactic(auto, unfolding(crate::specs::Judging::told_of))]
-fn told_of(kind: u8, verdict: Verdict) -> Answer
-    ensures { result ≡ told_of kind verdict }
+fn told_of(begun: bool, verdict: Verdict) -> Answer
+    ensures { result ≡ told_of begun verdict }
 {
     let answer = answer_of(verdict);
     match verdict {
         Verdict::Segment { len, last, .. } => goes_on(last, answer, 0x01, 0, len),
         Verdict::Fragment { len, last, .. } => goes_on(last, answer, 0x02, 1, len),
-        Verdict::ReplyDue => went_on(0x02, begun_by(kind), 0),
+        Verdict::ReplyDue => went_on(0x02, u8::from(begun), 0),
         _ => answer,
     }
 }
 
+#[tactic(auto, using(wire::proofs::Tests::tests), unfolding(crate::specs::Judging::ruling_for))]
 pub fn coe_judge(
     kind: u8,
     index: u16,
@@ -112,16 +81,13 @@ pub fn coe_judge(
 ) -> Answer
     ensures { Judges kind index sub earlier reply.now buffer.old result buffer.new }
 {
-    if is_unjudged(kind) {
-        return plain(0x15);
+    let Some(due) = asked(kind, index, sub) else {
+        return plain(Refusal::BadOrder.number());
+    };
+    if 1486 < reply.len() || 131070 < buffer.len() {
+        return plain(Refusal::BufferLength.number());
     }
-    if 1486 < reply.len() {
-        return plain(0x16);
-    }
-    if 131070 < buffer.len() {
-        return plain(0x16);
-    }
-    let verdict = verdict_for(kind, index, sub, earlier, reply, buffer.len() as u32);
-    judge::store(verdict, reply, buffer, place_for(kind, earlier));
-    told_of(kind, verdict)
+    let verdict = due.judge(reply, earlier, buffer.len() as u32);
+    judge::store(verdict, reply, buffer, place_for(due, earlier));
+    told_of(has_begun(due), verdict)
 }

@@ -7,7 +7,7 @@ use Prim.Native.Nat.{ℕ, ◌+◌, ◌-◌, ◌≤◌}
 use borrow.Author.Tests.{eqb-true}
 use lib.Dec.{eqb, ltb}
 use lib.ListN.{length}
-use Rattle.std.specs.Prelude.{Result, Ok, Err}
+use Rattle.std.specs.Prelude.{Option, Some, None, Result, Ok, Err}
 use Rattle.wire.specs.declared.refusal.Refusal.{Refusal}
 use Rattle.wire.specs.declared.refusal.Refusal.TheVariants.{Undecodable}
 use Rattle.wire.specs.Words.{pick, either, first_of, map_ok}
@@ -33,19 +33,20 @@ use Rattle.judge.proofs.Cases.{Alarming, upload_cases, download_cases, segment_c
 use Rattle.judge.proofs.Laid.{laid_nil}
 use Rattle.judge.proofs.Payload.{part_length}
 use Rattle.transfer.specs.Judgement.{judge_reply}
+use Rattle.transfer.specs.declared.due.Reply.{Reply}
 use Rattle.promises.specs.Finding.{number, refuse, finding}
 use Rattle.promises.specs.Rules.{under}
 use Rattle.promises.proofs.Lines.{Look, missing, present}
 use Rattle.promises.proofs.Decoded.{operation_look, in_turn, information_in, information_read}
 use Rattle.promises.proofs.Rules.{judged_by_rules}
-use Rattle.linked.specs.Judging.{unjudged, verdict_for, place_for, begun_by, told_of, ruling_for, Judges}
+use Rattle.linked.specs.Judging.{asked, has_begun, place_for, told_of, ruling_for, Judges}
 use Rattle.surface.specs.Judge.{kinds, answers, judge_rules, besides, place_at, JudgesReply}
 
 -- ---- what is told besides
 
 -- what the exported judge tells of a verdict is what is told by the rules, and besides
 abbrev Told : ℕ → List ℕ → Verdict → Type 0
-Told kind s v = told_of kind v ≡ besides kind s (finding v s)
+Told kind s v = told_of (eqb kind 8) v ≡ besides kind s (finding v s)
 
 alarms : (kind : ℕ) (s : List ℕ) → Alarming (Told kind s)
 unfolding told_of answer_of besides
@@ -82,7 +83,7 @@ module _ (kind : ℕ) (begun : Bool) (earlier n : ℕ) (s : List ℕ) where
       chunk from len false g k = rw (part_length s from len g, two, either_true (eqb kind 8))
 
   due : eqb (the operation s) 2 ≡ false → Told kind s ReplyDue
-  unfolding told_of answer_of besides begun_by
+  unfolding told_of answer_of besides
   due other = rw (other, either_false (eqb kind 8))
 
   abbrev judged_as : Headers SdoInfoHeader → Verdict
@@ -125,35 +126,36 @@ listed_kind kind h =
     by (eqb kind 8) (λ y. subst Judgeable (sym (eqb-true kind 8 y)) later_fragment_lem) λ e.
     absurd (false≢true (rw (a, b, c, d, e) at h))
 
-unjudged_is : (kind : ℕ) → unjudged kind ≡ not (one_of kinds kind)
-unfolding unjudged
-unjudged_is kind = go (eqb kind 1) (eqb kind 3) (eqb kind 4) (eqb kind 7) (eqb kind 8)
-  where
-    go : (a b c d e : Bool) → pick a false (pick b false (pick c false (pick d false (pick e false true))))
-        ≡ not (either a (either b (either c (either d (either e false)))))
-    go true b c d e = refl
-    go false true c d e = refl
-    go false false true d e = refl
-    go false false false true e = refl
-    go false false false false true = refl
-    go false false false false false = refl
-
 module _ (i b earlier : ℕ) (s d : List ℕ) where
+  unasked : (kind : ℕ) → one_of kinds kind ≡ false → asked kind i b ≡ None
+  unfolding asked
+  unasked kind = go _ _ _ _ _ (eqb kind 1) (eqb kind 3) (eqb kind 4) (eqb kind 7) (eqb kind 8)
+    where
+      go : (v w x y z : Reply) (p q r t u : Bool) → either p (either q (either r (either t (either u false)))) ≡ false
+          → pick p (Some v) (pick q (Some w) (pick r (Some x) (pick t (Some y) (pick u (Some z) None)))) ≡ None
+      go v w x y z true q r t u h = absurd (false≢true (sym h))
+      go v w x y z false true r t u h = absurd (false≢true (sym h))
+      go v w x y z false false true t u h = absurd (false≢true (sym h))
+      go v w x y z false false false true u h = absurd (false≢true (sym h))
+      go v w x y z false false false false true h = absurd (false≢true (sym h))
+      go v w x y z false false false false false h = refl
+
   abbrev verdict : ℕ → Verdict
-  verdict kind = verdict_for kind i b earlier (length d) s
+  verdict kind = judge_reply (answers kind i b) earlier (length d) s
 
   record Ruled (kind : ℕ) : Type 0 where
-    is : verdict kind ≡ judge_reply (answers kind i b) earlier (length d) s
-    lies : place_for kind earlier ≡ place_at kind earlier
+    asks : asked kind i b ≡ Some (answers kind i b)
+    begun : has_begun (answers kind i b) ≡ eqb kind 8
+    lies : place_for (answers kind i b) earlier ≡ place_at kind earlier
     told : Told kind s (verdict kind)
 
   ruled : {kind : ℕ} → Judgeable kind → Ruled kind
-  unfolding verdict_for judge_reply place_for place_at
-  ruled upload = record { is = refl; lies = refl; told = upload_told 1 i b (length d) s }
-  ruled download = record { is = refl; lies = refl; told = download_told 3 i b s }
-  ruled first_fragment_lem = record { is = refl; lies = refl; told = list_told 4 false earlier (length d) s }
-  ruled segment = record { is = refl; lies = refl; told = segment_told 7 earlier (length d) s }
-  ruled later_fragment_lem = record { is = refl; lies = refl; told = list_told 8 true earlier (length d) s }
+  unfolding asked judge_reply place_at
+  ruled upload = record { asks = refl; begun = refl; lies = refl; told = upload_told 1 i b (length d) s }
+  ruled download = record { asks = refl; begun = refl; lies = refl; told = download_told 3 i b s }
+  ruled first_fragment_lem = record { asks = refl; begun = refl; lies = refl; told = list_told 4 false earlier (length d) s }
+  ruled segment = record { asks = refl; begun = refl; lies = refl; told = segment_told 7 earlier (length d) s }
+  ruled later_fragment_lem = record { asks = refl; begun = refl; lies = refl; told = list_told 8 true earlier (length d) s }
 
   module _ (kind : ℕ) {answer : Answer} {after : List ℕ} where
     refuses : (n : ℕ) → (eqb n 0x01 ≡ false) → (eqb n 0x02 ≡ false) → first_of (judge_rules kind i b earlier s d) ≡ some (refuse n)
@@ -170,17 +172,16 @@ module _ (i b earlier : ℕ) (s d : List ℕ) where
     unfolding judge_rules first_of ruling_for stored
     judges_reply J =
         by (one_of kinds kind)
-        (λ y. by (ltb 1486 (length s))
-        (λ l. refuses 0x16 refl refl (rw (y, l)) (rw (unjudged_is kind, y, l) at J.0) (rw (unjudged_is kind, y, l) at J.1))
-        (λ r. by (ltb 131070 (length d))
-        (λ l. refuses 0x16 refl refl (rw (y, r, l)) (rw (unjudged_is kind, y, r, l) at J.0) (rw (unjudged_is kind, y, r, l) at J.1))
-        (λ m.
+        (λ y.
         let R = ruled (listed_kind kind y) in
-        let v = judge_reply (answers kind i b) earlier (length d) s in
-        record {
+        by (ltb 1486 (length s))
+        (λ l. refuses 0x16 refl refl (rw (y, l)) (rw (R.asks, l) at J.0) (rw (R.asks, l) at J.1))
+        (λ r. by (ltb 131070 (length d))
+        (λ l. refuses 0x16 refl refl (rw (y, r, l)) (rw (R.asks, r, l) at J.0) (rw (R.asks, r, l) at J.1))
+        (λ m. record {
           found = finding (verdict kind) s;
-          first = rw (y, r, m) (judged_by_rules (answers kind i b) earlier (length d) s ∙ ap (λ (x : Verdict). some (finding x s)) (sym R.is));
-          told = (rw (unjudged_is kind, y, r, m) at J.0) ∙ R.told;
-          stored = (rw (unjudged_is kind, y, r, m) at J.1) ∙ rw R.lies;
+          first = rw (y, r, m) (judged_by_rules (answers kind i b) earlier (length d) s);
+          told = (rw (R.asks, r, m, R.begun) at J.0) ∙ R.told;
+          stored = (rw (R.asks, r, m) at J.1) ∙ rw R.lies;
         })))
-        (λ n. refuses 0x15 refl refl (rw n) (rw (unjudged_is kind, n) at J.0) (rw (unjudged_is kind, n) at J.1))
+        (λ n. refuses 0x15 refl refl (rw n) (rw (unasked kind n) at J.0) (rw (unasked kind n) at J.1))

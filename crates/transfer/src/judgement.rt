@@ -11,7 +11,7 @@ use wire::refusal::Refusal;
 impl Reply {
     // sum: of the earlier chunks; n: the data buffer's length.
     #[tactic(auto, unfolding(crate::specs::Judgement::judge_reply))]
-    fn judge(self, s: &[u8], sum: u32, n: u32) -> Verdict
+    pub fn judge(self, s: &[u8], sum: u32, n: u32) -> Verdict
         ensures { result ≡ judge_reply self sum n s.now }
     {
         match self {
