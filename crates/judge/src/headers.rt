@@ -45,7 +45,9 @@ fn read_front(s: &[u8], least: usize) -> Result<Option<Front>, Refusal>
     Ok(Some(Front { mailbox, service }))
 }
 
-// Of the reply to an upload or a download, and of a segment.
+// Of the reply to an upload or a download, and of a segment. A hint to the compiler: called, it hands the headers on in memory, and a
+// judgement takes some 70 instructions more.
+#[inline(always)]
 #[tactic(auto, using(crate::proofs::InOrder::fronts))]
 pub(crate) fn read_behind<H: Header>(s: &[u8], least: usize) -> Result<Option<Headers<H>>, Refusal>
     ensures { result ≡ read_behind H.read least s.now }
