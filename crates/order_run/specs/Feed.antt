@@ -1,12 +1,12 @@
 -- The order program by characters, as they come: what a piece of input does to a run, and what it prints. That pieces give what the whole
 -- text gives, as Printed says it by lines, is `AsPrinted`, which proofs/Whole proves. Assumes nothing.
-use Rattle.std.specs.Prelude.{ℕ, ◌+◌, ◌*◌, ◌<◌, ◌≤◌, ◌≡◌, Bool, true, false, List, [], ◌∷◌, ◌++◌, eqb, ltb, leb, length, get_or, set, take, replicate, Option, Some, None, is_none}
+use Rattle.std.specs.Prelude.{ℕ, ◌+◌, ◌*◌, ◌<◌, ◌≤◌, ◌≡◌, Bool, true, false, List, [], ◌∷◌, ◌++◌, eqb, ltb, leb, length, set, take, replicate, Option, Some, None, is_none}
 use Rattle.std.proofs.Math.Seq.{paste}
 use Rattle.wire.specs.Words.{pick}
 use Rattle.wire.specs.Store.{laid}
 use Rattle.desk.specs.Record.{empty_at, Good}
 use Rattle.desk.specs.declared.Desk.{Desk}
-use Rattle.order_text.specs.Digits.{digit_of, byte_of}
+use Rattle.order_text.specs.Digits.{digit_of}
 use Rattle.order_text.specs.Lines.{has_bad, bytes_of}
 use Rattle.order_run.specs.Turns.{Said, is_over, failed, after_frame, kept_frame, after_all}
 use Rattle.order_run.specs.Printed.{printed}
@@ -124,15 +124,6 @@ pub record Begun (p : Part) : Type 0 where
 
 abbrev pub further : Part → ℕ → Part
 further p more = part (p.count + more) p.half
-
--- the digits of all characters
-pub record Table (t : List ℕ) : Type 0 where
-  pub long : length t ≡ 256
-  pub digits : (c : ℕ) → c < 256 → get_or t c 0 ≡ digit_of c
-
--- the byte of two digits
-abbrev pub byte_in : ℕ → ℕ → Option ℕ
-byte_in a b = pick (leb (byte_of a b) 255) (Some (byte_of a b)) None
 
 -- r bytes that the text t begins with, stored in the frame f from a place on
 pub record Whole (t : List ℕ) (at : ℕ) (f : List ℕ) (r : ℕ) (f' : List ℕ) : Type 0 where

@@ -1,6 +1,8 @@
 // A line as its digits come: the bytes so far stand at the front of the frame.
 ghost use Rattle.std.specs.Prelude.{◌≡◌, None, ◌+◌, ◌≤◌, ◌<◌, length, drop};
-ghost use Rattle.order_run.specs.Feed.{nothing as Feed·nothing, begun, further as Feed·further, fails, byte_in, put_part, put_frame, Begun, Table, Whole};
+ghost use Rattle.order_run.specs.Feed.{nothing as Feed·nothing, begun, further as Feed·further, fails, put_part, put_frame, Begun, Whole};
+
+use crate::table::DigitTable;
 
 // "at most 1,486 bytes each"
 pub const LONGEST: usize = 1486;
@@ -59,40 +61,15 @@ pub(crate) fn put(part: Part, digit: u8, frame: &mut [u8]) -> Part
     }
 }
 
-// What order_text::digit says of each character. A table is read faster than the ranges are tested, and is made once for a piece.
-pub(crate) fn digit_table() -> [u8; 256]
-    ensures { Table result }
-{
-    let mut table = [0; 256];
-    for c in 0..256 {
-        table[c] = order_text::digit(c as u8);
-    }
-    table
-}
-
-// order_text::byte_of, by the table.
-fn byte_by(table: &[u8; 256], a: u8, b: u8) -> Option<u8>
-    requires { Table table.now }
-    ensures { result ≡ byte_in a b }
-{
-    let high = table[a as usize];
-    let low = table[b as usize];
-    if 15 < high || 15 < low {
-        return None;
-    }
-    Some(16 * high + low)
-}
-
 // The bytes that the text begins with, as far as they have room; answers how many.
-fn pairs(table: &[u8; 256], text: &[u8], frame: &mut [u8], at: usize) -> usize
-    requires table { Table table.now }
+fn pairs(table: &DigitTable, text: &[u8], frame: &mut [u8], at: usize) -> usize
     requires at_bound { at ≤ 1486 }
     requires frame_len { length frame.old ≡ 1486 }
     ensures { Whole text.now at frame.old result frame.new }
 {
     let most = (text.len() / 2).min(frame.len() - at);
     for k in 0..most {
-        let Some(b) = byte_by(table, text[2 * k], text[2 * k + 1]) else {
+        let Some(b) = table.byte(text[2 * k], text[2 * k + 1]) else {
             return k;
         };
         frame[at + k] = b;
@@ -102,13 +79,12 @@ fn pairs(table: &[u8; 256], text: &[u8], frame: &mut [u8], at: usize) -> usize
 
 // The same from a place of the text on, where no byte is begun: how many bytes are taken two digits at a time.
 pub(crate) fn whole_bytes(
-    table: &[u8; 256],
+    table: &DigitTable,
     text: &[u8],
     from: usize,
     part: Part,
     frame: &mut [u8],
 ) -> usize
-    requires table { Table table.now }
     requires from_in_bounds { from ≤ length text.now }
     requires begun { Begun part }
     requires frame_len { length frame.old ≡ 1486 }

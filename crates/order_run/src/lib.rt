@@ -4,16 +4,18 @@
 
 pub mod digits;
 pub mod entry;
+mod table;
 pub mod turns;
 
 ghost use Rattle.std.specs.Prelude.{◌≡◌, ◌+◌, ◌*◌, ◌≤◌, length, take, replicate};
 ghost use Rattle.desk.specs.Record.{Good};
 ghost use Rattle.order_run.specs.Turns.{Says};
-ghost use Rattle.order_run.specs.Feed.{st_of, st_in, st, after, line_ended, finished, end_said, end_kept, Begun, Table, Going, Starts, Feeds};
+ghost use Rattle.order_run.specs.Feed.{st_of, st_in, st, after, line_ended, finished, end_said, end_kept, Begun, Going, Starts, Feeds};
 
 use desk::Desk;
 use desk::change::Change;
-use digits::{LONGEST, Part, digit_table, further, is_bad, is_begun, nothing, put, whole_bytes};
+use digits::{LONGEST, Part, further, is_bad, is_begun, nothing, put, whole_bytes};
+use table::DigitTable;
 use turns::{Phase, all_read, frame_read, is_quiet, last_number, print_answer};
 use wire::refusal::Refusal;
 
@@ -91,14 +93,13 @@ fn line_end(
 // "nested loops over lines and digits, left by a label at the first bad character"
 fn feed_piece(
     run: Run,
-    table: &[u8; 256],
+    table: &DigitTable,
     text: &[u8],
     frame: &mut [u8],
     data: &mut [u8],
     out: &mut [u8],
 ) -> Fed
     requires going { Going run }
-    requires table { Table table.now }
     requires text_len_bound { length text.now ≤ 4096 }
     requires frame_len { (length frame.old ≡ 1486) × (length «data».old ≡ 4096) × (length out.old ≡ 143363) }
     ensures { Feeds (after (st_of run frame.old «data».old) text.now) (length text.now) result frame.new «data».new out.old out.new }
@@ -175,10 +176,9 @@ pub fn feed(run: Run, text: &[u8], buffers: &mut Buffers) -> Fed
     ensures { Feeds (after (st_in run buffers.old) (take 4096 text.now)) 4096 result buffers.new.frame buffers.new.«data» buffers.old.out buffers.new.out }
 {
     let end = PIECE.min(text.len());
-    let table = digit_table();
     feed_piece(
         run,
-        &table,
+        &DigitTable::new(),
         &text[..end],
         &mut buffers.frame,
         &mut buffers.data,

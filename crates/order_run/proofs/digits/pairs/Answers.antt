@@ -12,7 +12,7 @@ loop-k-init c =
 pub loop-k-preserved : goal.loop-k-preserved
 loop-k-preserved c =
     let l = c.loop-k.invariant in
-    let b = is_byte _ _ (sym c.byte_by.ensures ∙ c.in-Some.is) in (
+    let b = is_byte _ _ (sym c.byte.ensures ∙ c.in-Some.is) in (
       l.0,
       l.1,
       simp length-set l.2,
