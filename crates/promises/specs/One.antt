@@ -2,11 +2,13 @@
 -- lent and exported, one of linked/specs/One, or, of its callers, one of surface/specs/One, or, of the order program, one of
 -- order_run/specs/One or order_io/specs/Shown. Each leaves one answer and one content of what is lent. `tools/statements --shapes` names
 -- the shape of every public function and fails at one that has none of them. Assumes nothing.
-use Rattle.std.specs.Prelude.{◌≡◌, Bool, List, ℕ, Result}
+use Rattle.std.specs.Prelude.{◌≡◌, Bool, List, ℕ, Option, Result}
 use Rattle.wire.specs.Words.{One}
 use Rattle.wire.specs.declared.refusal.Refusal.{Refusal}
 use Rattle.services.specs.Written.{Writes}
 use Rattle.services.specs.declared.Request.{Request}
+use Rattle.reads.specs.Reader.{Takes}
+use Rattle.reads.specs.declared.reader.ListReader.{ListReader}
 use Rattle.line.specs.Machine.{Ruling}
 use Rattle.transfer.specs.Coe.{ruling_of}
 use Rattle.transfer.specs.declared.Order.{Order}
@@ -23,6 +25,8 @@ use Rattle.promises.specs.Standing.{Called}
 pub record Unique : Type 1 where
   -- `r ≡ x`, or the same of a lent buffer
   pub equality : {A : Type 0} (x : A) → One (λ r. r ≡ x)
+  -- `λ x r. r ≡ f x`, of a conversion's trait: what the value `x` comes to
+  pub conversion : {A B : Type 0} (f : A → B) (x : A) → One (λ r. r ≡ f x)
   -- `(r ≡ x) × (what is lent ≡ y)`, or the same of the answer's two fields
   pub equalities : {A B : Type 0} (x : A) (y : B) → One (λ (r : A × B). (r.0 ≡ x) × (r.1 ≡ y))
   -- the same of a result, as the ruling that it stands for
@@ -38,5 +42,7 @@ pub record Unique : Type 1 where
   pub changes_lent : (d : Desk) (k : Called) (before : List ℕ) → One (λ (r : Result Change Refusal × List ℕ). ChangesLent d k r.0 before r.1)
   pub run : (seat : ℕ) (order : Order) (frame reply buffer : List ℕ)
       → One (λ (r : Seen × List ℕ × List ℕ). RunSeen seat order frame reply buffer r.0 r.1 r.2)
+  -- of an iterator's step: the index that it gives, and the reader afterwards
+  pub takes : (r : ListReader) → One (λ (x : Option ℕ × ListReader). Takes r x.0 x.1)
   -- what is said of a packed request by its fields
   pub packs : PacksOne
