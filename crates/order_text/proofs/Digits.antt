@@ -1,12 +1,13 @@
 -- Laws of characters and digits: which characters are digits, and that a digit and its character go to each other and back.
 -- Assumes nothing.
 use Prim.Native.Nat.{ℕ, ◌+◌, ◌-◌, ◌*◌, ◌/◌, ◌%◌, ◌<◌, ◌≤◌}
-use mathlib.Core.Path.{◌≡◌, ◌∙◌}
+use mathlib.Core.Path.{◌≡◌, sym, ◌∙◌}
 use native.Mathlib.Omega.{arith}
 use lib.Dec.{ltb}
 use borrow.Author.Tests.{lt-ltb, le-ltb, le-leb, lt-leb, ltb-true, ltb-false}
+use Rattle.std.specs.Prelude.{Option, Some, None}
 use Rattle.wire.proofs.Cases.{by}
-use Rattle.order_text.specs.Digits.{digit_of, char_of, byte_of}
+use Rattle.order_text.specs.Digits.{digit_of, char_of, byte_of, byte_in}
 
 module _ (c : ℕ) where
   pub digit_number : 48 ≤ c → c < 58 → digit_of c ≡ c - 48
@@ -79,7 +80,14 @@ pub byte_low : (a b : ℕ) → digit_of a ≤ 15 → 15 < digit_of b → byte_of
 unfolding byte_of
 byte_low a b h k = rw (le-ltb 15 (digit_of a) h, lt-ltb 15 (digit_of b) k)
 
--- and a byte's two characters make the byte
+module _ (a b : ℕ) where
+  pub no_byte : 255 < byte_of a b → ◌≡◌ {A = Option ℕ} None (byte_in a b)
+  no_byte h = sym (rw (lt-leb (byte_of a b) 255 h))
+
+  pub one_byte : byte_of a b ≤ 255 → ◌≡◌ {A = Option ℕ} (Some (byte_of a b)) (byte_in a b)
+  one_byte h = sym (rw (le-leb (byte_of a b) 255 h))
+
+-- a byte's two characters make the byte
 pub byte_chars : (x : ℕ) → x < 256 → byte_of (char_of (x / 16)) (char_of (x % 16)) ≡ x
 byte_chars x h =
     let high : digit_of (char_of (x / 16)) ≡ x / 16 = digit_char (x / 16) (omega arith) in

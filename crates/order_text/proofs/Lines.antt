@@ -10,12 +10,13 @@ use lib.ListN.{length, get_or, set, take, drop, length-take, drop_of_length-le}
 use lib.Seq.{paste}
 use Rattle.std.proofs.Common.{append-nil}
 use borrow.Author.Tests.{ltb-false}
+use Rattle.std.specs.Prelude.{Option, Some}
 use Rattle.std.specs.List.{list_any}
 use Rattle.wire.specs.Words.{either}
 use Rattle.wire.proofs.Store.{paste_turn}
-use Rattle.order_text.specs.Digits.{digit_of, byte_of}
+use Rattle.order_text.specs.Digits.{digit_of, byte_of, byte_in}
 use Rattle.order_text.specs.Lines.{has_bad, bytes_of}
-use Rattle.order_text.proofs.Digits.{byte_digits}
+use Rattle.order_text.proofs.Digits.{byte_digits, one_byte}
 
 -- a character that is no digit
 abbrev pub is_bad : ℕ → Bool
@@ -76,6 +77,11 @@ byte_less s k e h =
     let high : digit_of (get_or s (2 * k) 0) ≤ 15 = digit_at s (2 * k) e (omega arith) in
     let low : digit_of (get_or s (2 * k + 1) 0) ≤ 15 = digit_at s (2 * k + 1) e h in
     rw (byte_digits (get_or s (2 * k) 0) (get_or s (2 * k + 1) 0) high low) (omega arith)
+
+-- so there is one
+pub byte_some : (s : List ℕ) (k : ℕ) → has_bad s ≡ false → 2 * k + 1 < length s
+    → ◌≡◌ {A = Option ℕ} (Some (byte_of (get_or s (2 * k) 0) (get_or s (2 * k + 1) 0))) (byte_in (get_or s (2 * k) 0) (get_or s (2 * k + 1) 0))
+byte_some s k e h = one_byte (get_or s (2 * k) 0) (get_or s (2 * k + 1) 0) (omega (arith, byte_less s k e h))
 
 -- a turn of a loop that stores the bytes from a place on
 pub byte_turn : (f s : List ℕ) (at k j : ℕ) → j ≡ at + k → j < length f → 2 * k + 1 < length s

@@ -5,11 +5,12 @@
 ghost use Rattle.std.specs.Prelude.{◌≡◌, false, ◌+◌, ◌-◌, ◌*◌, ◌/◌, ◌%◌, ◌<◌, ◌≤◌, min, length, get_or};
 ghost use Rattle.std.proofs.Math.Seq.{paste};
 ghost use Rattle.wire.specs.Store.{laid};
-ghost use Rattle.order_text.specs.Digits.{digit_of, char_of, byte_of};
+ghost use Rattle.order_text.specs.Digits.{digit_of, char_of, byte_of, byte_in};
 ghost use Rattle.order_text.specs.Lines.{has_bad, bytes_of, line_of, answer_of, left_in};
 ghost use Rattle.order_text.specs.Text.{hex_text, text_in};
 
-// The digit that a character is, and 16 for a character that is none: 16 and not None, as digit_of says, which order_run's specs cite.
+// The digit that a character is, and 16 for a character that is none: digit_of has that number, with which has_bad and order_run's `fails`
+// compare, and which order_run's table keeps in a byte.
 #[tactic(auto, using(wire::proofs::Tests::tests), unfolding(crate::specs::Digits::digit_of))]
 pub fn digit(c: u8) -> u8
     ensures { result ≡ digit_of c }
@@ -34,17 +35,17 @@ pub fn glyph(d: u8) -> u8
     }
 }
 
-// The byte that two characters say, and 256 where one of them is no digit: byte_of has that number, as order_run's specs cite it.
+// The byte that two characters say, if both are digits.
 #[tactic(auto, using(wire::proofs::Tests::tests), unfolding(crate::specs::Digits::byte_of))]
-pub fn byte_of(a: u8, b: u8) -> u16
-    ensures { result ≡ byte_of a b }
+pub fn byte_of(a: u8, b: u8) -> Option<u8>
+    ensures { result ≡ byte_in a b }
 {
     let high = digit(a);
     let low = digit(b);
     if 15 < high || 15 < low {
-        return 256;
+        return None;
     }
-    16 * u16::from(high) + u16::from(low)
+    Some(16 * high + low)
 }
 
 // Whether a character of the line is no digit.
@@ -54,12 +55,13 @@ fn has_bad(line: &[u8]) -> bool
     line.iter().any(|&c| 15 < digit(c))
 }
 
-// What the two characters of the line's byte k say.
-fn byte_at(line: &[u8], k: usize) -> u16
-    requires { 2 * k + 1 < length line.now }
+// The byte k of a line of digits.
+fn byte_at(line: &[u8], k: usize) -> u8
+    requires line_value { has_bad line.now ≡ false }
+    requires bytes_in_bounds { 2 * k + 1 < length line.now }
     ensures { result ≡ byte_of (get_or line.now (2 * k) 0) (get_or line.now (2 * k + 1) 0) }
 {
-    byte_of(line[2 * k], line[2 * k + 1])
+    byte_of(line[2 * k], line[2 * k + 1]).unwrap()
 }
 
 // The first `count` bytes of a line of digits, at the front of `frame`. By the bytes' places: a zip with chunks of the line was tried,
@@ -71,7 +73,7 @@ fn store(line: &[u8], frame: &mut [u8], count: usize)
     ensures { frame.new ≡ paste frame.old 0 (bytes_of line.now) count }
 {
     for (k, byte) in frame[..count].iter_mut().enumerate() {
-        *byte = byte_at(line, k) as u8;
+        *byte = byte_at(line, k);
     }
 }
 

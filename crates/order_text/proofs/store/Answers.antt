@@ -5,17 +5,11 @@ use mathlib.Core.List.{◌++◌}
 use lib.ListN.{length, length-take, drop, take}
 use lib.Seq.{paste, paste-zero}
 use Rattle.order_text.specs.Lines.{bytes_of}
-use Rattle.order_text.proofs.Lines.{byte_less, byte_turn, length-bytes, paste_front}
+use Rattle.order_text.proofs.Lines.{byte_turn, length-bytes, paste_front}
 use Rattle.order_text.proofs.store.Goals as goal
 
 pub loop-k-init : goal.loop-k-init
 loop-k-init c = paste-zero _ 0 (bytes_of c.args.line.now)
-
-pub overflow_cast-byte : goal.overflow_cast-byte
-overflow_cast-byte c =
-    let a = c.args in
-    let n : length (take a.count a.frame.now) ≡ a.count = simp length-take (omega arith) in
-    omega (arith, byte_less a.line.now c.loop-k.k c.requires.line_value (omega arith))
 
 pub loop-k-preserved : goal.loop-k-preserved
 loop-k-preserved c =
