@@ -13,6 +13,7 @@ pub struct CoeHeader {
 
 impl CoeHeader {
     // Bytes 6 and 7 of a frame.
+    #[tactic(auto, using(crate::proofs::Packing::packing))]
     pub fn pack(self) -> [u8; 2]
         ensures { result ≡ coe_header_bytes self }
     {
@@ -24,6 +25,7 @@ impl CoeHeader {
 impl Header for CoeHeader {
     ghost read = { read_coe_header };
 
+    #[tactic(auto, using(crate::proofs::Unpacking::unpacking), unfolding(crate::specs::Headers::read_coe_header))]
     fn unpack(frame: &[u8]) -> Result<Self, Refusal> {
         if frame.len() < 8 {
             return Err(Refusal::Undecodable);

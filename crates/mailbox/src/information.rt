@@ -15,6 +15,7 @@ pub struct SdoInfoHeader {
 
 impl SdoInfoHeader {
     // Bytes 8 to 11 of a frame.
+    #[tactic(auto, using(crate::proofs::Packing::packing))]
     pub fn pack(self) -> [u8; 4]
         ensures { result ≡ sdo_info_bytes self }
     {
@@ -31,6 +32,7 @@ impl SdoInfoHeader {
 impl Header for SdoInfoHeader {
     ghost read = { read_sdo_info };
 
+    #[tactic(auto, using(crate::proofs::Unpacking::unpacking), unfolding(crate::specs::Headers::read_sdo_info))]
     fn unpack(frame: &[u8]) -> Result<Self, Refusal> {
         if frame.len() < 12 {
             return Err(Refusal::Undecodable);

@@ -19,6 +19,7 @@ pub struct SdoHeader {
 
 impl SdoHeader {
     // Bytes 8 to 11 of a frame.
+    #[tactic(auto, using(crate::proofs::Packing::packing))]
     pub fn pack(self) -> [u8; 4]
         ensures { result ≡ sdo_header_bytes self }
     {
@@ -39,6 +40,7 @@ impl SdoHeader {
 impl Header for SdoHeader {
     ghost read = { read_sdo_header };
 
+    #[tactic(auto, using(crate::proofs::Unpacking::unpacking), unfolding(crate::specs::Headers::read_sdo_header))]
     fn unpack(frame: &[u8]) -> Result<Self, Refusal> {
         if frame.len() < 12 {
             return Err(Refusal::Undecodable);

@@ -16,6 +16,7 @@ pub struct SdoHeaderSegmented {
 
 impl SdoHeaderSegmented {
     // Byte 8 of a frame.
+    #[tactic(auto, using(crate::proofs::Packing::packing))]
     pub fn pack(self) -> [u8; 1]
         ensures { result ≡ segmented_bytes self }
     {
@@ -32,6 +33,7 @@ impl SdoHeaderSegmented {
 impl Header for SdoHeaderSegmented {
     ghost read = { read_segmented };
 
+    #[tactic(auto, using(crate::proofs::Unpacking::unpacking), unfolding(crate::specs::Headers::read_segmented))]
     fn unpack(frame: &[u8]) -> Result<Self, Refusal> {
         if frame.len() < 9 {
             return Err(Refusal::Undecodable);
