@@ -1,3 +1,4 @@
+pub mod Reached
 pub mod Laid
 pub mod Listed
 pub mod Cases

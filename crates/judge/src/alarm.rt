@@ -7,6 +7,7 @@ use crate::places::{ABORT_CODE, ABORT_LEAST, EMERGENCY_LEAST, INDEX, MESSAGE_AT,
 use wire::refusal::Refusal;
 
 // Rule 2, of service 1.
+#[tactic(auto, using(wire::proofs::Tests::tests), unfolding(crate::specs::Alarm::emergency_in))]
 pub(crate) fn emergency(s: &[u8]) -> Verdict
     ensures { result ≡ emergency_in s.now }
 {
@@ -17,6 +18,7 @@ pub(crate) fn emergency(s: &[u8]) -> Verdict
 }
 
 // Rule 3, of specifier 4. The index and sub-index are the reply's own.
+#[tactic(auto, using(wire::proofs::Tests::tests, mailbox::proofs::Reading::reading), unfolding(crate::specs::Alarm::abort_in))]
 pub(crate) fn abort(s: &[u8]) -> Verdict
     ensures { result ≡ abort_in s.now }
 {

@@ -26,6 +26,7 @@ pub struct Headers<H> {
 }
 
 // Of a reply that must have `least` bytes; None is an emergency, service 1, which no third header follows.
+#[tactic(auto, using(wire::proofs::Tests::tests, crate::proofs::Listed::service_1), unfolding(crate::specs::Headers::read_front))]
 fn read_front(s: &[u8], least: usize) -> Result<Option<Front>, Refusal>
     ensures { result ≡ read_front least s.now }
 {
@@ -69,6 +70,7 @@ pub(crate) fn read_behind<H: Header>(s: &[u8], least: usize) -> Result<Option<He
 }
 
 // Of a reply to the request for a list, which has no rule for an emergency.
+#[tactic(auto, unfolding(crate::specs::Headers::read_information_headers))]
 pub(crate) fn read_information_headers(s: &[u8]) -> Result<Headers<SdoInfoHeader>, Refusal>
     ensures { result ≡ read_information_headers s.now }
 {
@@ -90,6 +92,7 @@ pub(crate) fn read_information_headers(s: &[u8]) -> Result<Headers<SdoInfoHeader
 }
 
 // Rule 4 of a segment.
+#[tactic(auto, using(crate::proofs::Listed::type_3), unfolding(crate::specs::Headers::wrong_type))]
 pub(crate) fn wrong_type(mailbox: MailboxHeader) -> bool
     ensures { result ≡ wrong_type mailbox }
 {
@@ -97,6 +100,7 @@ pub(crate) fn wrong_type(mailbox: MailboxHeader) -> bool
 }
 
 // Rule 4 of an upload or a download.
+#[tactic(auto, using(wire::proofs::Tests::tests), unfolding(crate::specs::Headers::wrong_address))]
 pub(crate) fn wrong_address(h: Headers<SdoHeader>, index: u16, sub: u8) -> bool
     ensures { result ≡ wrong_address h index sub }
 {

@@ -10,6 +10,7 @@ use mailbox::information::SdoInfoHeader;
 use mailbox::numbers::SdoInfoOpCode;
 use wire::refusal::Refusal;
 
+#[tactic(auto, unfolding(crate::specs::Information::fragment_at))]
 fn fragment_at(begun: bool) -> u8
     ensures { result ≡ fragment_at begun }
 {
@@ -20,6 +21,7 @@ fn fragment_at(begun: bool) -> u8
     }
 }
 
+#[tactic(auto, using(wire::proofs::Tests::tests), unfolding(crate::specs::Information::fragment_of))]
 fn fragment(size: usize, h: Headers<SdoInfoHeader>, from: u8, earlier: u32, n: u32) -> Verdict
     ensures { result ≡ fragment_of size h from earlier n }
 {
@@ -39,6 +41,7 @@ fn fragment(size: usize, h: Headers<SdoInfoHeader>, from: u8, earlier: u32, n: u
 }
 
 // Judges a reply of a list after chunks of `earlier` bytes, into a buffer of n; begun: a fragment came before.
+#[tactic(auto, using(crate::proofs::Listed::operation_2), unfolding(crate::specs::Information::judge_list))]
 pub fn judge_list(s: &[u8], begun: bool, earlier: u32, n: u32) -> Verdict
     ensures { result ≡ judge_list begun earlier n s.now }
 {

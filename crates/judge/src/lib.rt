@@ -105,6 +105,7 @@ fn done_or(last: bool, length: u32, number: u8) -> Answer
 }
 
 // Each case's number and values.
+#[tactic(auto, unfolding(crate::specs::Answers::answer_of))]
 pub fn answer_of(verdict: Verdict) -> Answer
     ensures { result ≡ answer_of verdict }
 {

@@ -12,6 +12,7 @@ use mailbox::segment::SdoHeaderSegmented;
 use wire::refusal::Refusal;
 
 // Only of a chunk of exactly 7 the unused count is taken off.
+#[tactic(auto, using(wire::proofs::Tests::tests), unfolding(crate::specs::Segment::chunk_length))]
 fn chunk_length(length: u16, unused: u8) -> u16
     ensures { result ≡ chunk_length length unused }
 {
@@ -22,6 +23,7 @@ fn chunk_length(length: u16, unused: u8) -> u16
     len
 }
 
+#[tactic(auto, using(wire::proofs::Tests::tests), unfolding(crate::specs::Segment::segment_of))]
 fn segment(size: usize, h: Headers<SdoHeaderSegmented>, earlier: u32, n: u32) -> Verdict
     ensures { result ≡ segment_of size h earlier n }
 {

@@ -11,6 +11,7 @@ use mailbox::numbers::CoeCommand;
 use mailbox::sdo::SdoHeader;
 use wire::refusal::Refusal;
 
+#[tactic(auto, unfolding(crate::specs::Upload::expedited_of))]
 fn expedited(size: usize, unused: u8) -> Verdict
     ensures { result ≡ expedited_of size unused }
 {
@@ -25,6 +26,7 @@ fn expedited(size: usize, unused: u8) -> Verdict
 }
 
 // A normal upload whose data are all in this reply, which reaches to them: so an empty payload is there without a test of its own.
+#[tactic(auto, using(wire::proofs::Tests::tests, crate::proofs::Reached::reached), unfolding(crate::specs::Upload::whole_of))]
 fn whole(size: usize, len: u16) -> Verdict
     requires { 16 ≤ size }
     ensures { result ≡ whole_of size len }
@@ -38,6 +40,7 @@ fn whole(size: usize, len: u16) -> Verdict
     }
 }
 
+#[tactic(auto, using(wire::proofs::Tests::tests, mailbox::proofs::Reading::reading), unfolding(crate::specs::Upload::normal_of))]
 fn normal(s: &[u8], length: u16, n: u32) -> Verdict
     ensures { result ≡ normal_of s.now length n }
 {
@@ -55,6 +58,7 @@ fn normal(s: &[u8], length: u16, n: u32) -> Verdict
     Verdict::SegmentsFollow
 }
 
+#[tactic(auto, unfolding(crate::specs::Upload::upload_of))]
 fn upload(s: &[u8], h: Headers<SdoHeader>, n: u32) -> Verdict
     ensures { result ≡ upload_of s.now h n }
 {

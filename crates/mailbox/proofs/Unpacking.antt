@@ -10,7 +10,7 @@ use lib.ListN.{length}
 use Rattle.std.specs.Prelude.{Result, Ok, Err, IsErr, IsErrAnd}
 use Rattle.wire.specs.Words.{pick, map_ok}
 use Rattle.wire.specs.declared.refusal.Refusal.{Refusal}
-use Rattle.mailbox.proofs.Reading.{specifier_is, last_is, unused_is, toggle_is, indicator_is, expedited_is, size_is, complete_is, index_is, sub_is, length_is, priority_is, type_is, counter_is, service_is, operation_is, incomplete_is, fragments_is}
+use Rattle.mailbox.proofs.Reading.{reading}
 
 -- what `?` hands on
 handed_on : {H : Type 0} (r : Result H Refusal) (e : Refusal) → IsErr r × IsErrAnd r (λ f. f ≡ e) → r ≡ Err e
@@ -28,4 +28,4 @@ module _ {A H : Type 0} (make : A → H) (s : List ℕ) (least : ℕ) (none : Re
   pub listed_as : (a : A) → found ≡ Ok a → Ok (make a) ≡ pick (ltb (length s) least) none (map_ok make looked)
   listed_as a t = rw (le-ltb _ _ h, e, t)
 
-pub ruleset unpacking = (too_short, unlisted, listed_as, specifier_is, last_is, unused_is, toggle_is, indicator_is, expedited_is, size_is, complete_is, index_is, sub_is, length_is, priority_is, type_is, counter_is, service_is, operation_is, incomplete_is, fragments_is)
+pub ruleset unpacking = (too_short, unlisted, listed_as, reading)

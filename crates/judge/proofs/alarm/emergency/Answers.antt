@@ -1,14 +1,9 @@
 -- `emergency` meets its contract: what it reads byte by byte is the message.
-use borrow.Author.Tests.{lt-ltb, le-ltb}
+use borrow.Author.Tests.{le-ltb}
 use Rattle.wire.specs.Bytes.{Bytes}
 use Rattle.wire.proofs.Fields.{read_whole}
 use Rattle.judge.specs.Alarm.{message_in, emergency_in}
 use Rattle.judge.proofs.alarm.emergency.Goals as goal
-
-pub returns-then-s-lt-EMERGENCY_LEAST : goal.returns-then-s-lt-EMERGENCY_LEAST
-unfolding emergency_in
-returns-then-s-lt-EMERGENCY_LEAST c =
-    rw (lt-ltb _ _ c.if-s-lt-EMERGENCY_LEAST.true)
 
 pub returns : goal.returns
 unfolding emergency_in message_in
