@@ -20,9 +20,9 @@ use Rattle.order_text.specs.Lines.{bytes_of}
 use Rattle.order_text.proofs.Digits.{byte_digits}
 use Rattle.order_text.proofs.Lines.{digit_at, byte_turn}
 use Rattle.order_run.specs.Turns.{is_over, failed, after_frame, kept_frame}
-use Rattle.order_run.specs.Feed.{part, nothing, further, St, st, Did, behind, end_said, end_kept, ended, stopped, fails, put_part, put, after_char, after, Begun, Whole, Starts}
-use Rattle.order_run.specs.declared.digits.Part.{Part}
-use Rattle.order_run.proofs.Parts.{none≢some, some_is, fails_room, fails_not, fails_digit, put_first, put_second}
+use Rattle.order_run.specs.Part.{Part, part, nothing, Begun}
+use Rattle.order_run.specs.Feed.{further, St, st, Did, behind, end_said, end_kept, ended, stopped, fails, put, after_char, after, Whole, Starts}
+use Rattle.order_run.proofs.Parts.{some_is, fails_room, fails_not, fails_digit, put_first, put_second}
 use Rattle.order_run.specs.declared.turns.Phase.{Phase}
 use Rattle.order_run.specs.declared.turns.Phase.TheVariants.{Entry}
 
@@ -37,16 +37,13 @@ module _ (s : St) where
   unfolding end_said end_kept
   end_odd e = (sym (rw e), sym (rw e))
 
-pub nothing_begun : Begun nothing
-nothing_begun = record { room = omega arith; digit = λ h e. absurd (none≢some e) }
-
 pub started : (d : Desk) (p : Part) → Fresh first_counter d → p ≡ nothing → Starts (record { desk = d; phase = Entry; part = p })
 started d p F e =
     record {
       told =
           ap (λ (x : Desk). record { desk = x; phase = Entry; part = p }) F.empty
           ∙ ap (λ (x : Part). record { desk = empty_at 1; phase = Entry; part = x }) e;
-      going = record { good = F.good; begun = rw e nothing_begun };
+      going = record { good = F.good };
     }
 
 -- ---- what a character does
@@ -100,27 +97,11 @@ put_digit p c f =
     (λ e. absurd (true≢false (sym (fails_digit p c (ltb-true 15 (digit_of c) e)) ∙ f)))
     (λ e. ltb-false 15 (digit_of c) e)
 
-pub begun_put : (p : Part) (c : ℕ) (f : List ℕ) → Begun p → fails p c ≡ false → Begun (put_part p (digit_of c))
-begun_put p c f b e = go p.half refl
-  where
-    d : digit_of c ≤ 15
-    d = put_digit p c e
-
-    go : (x : Option ℕ) → p.half ≡ x → Begun (put_part p (digit_of c))
-    go None q =
-        let r = leb-false 1486 p.count (sym (fails_room p c d q) ∙ e) in
-        rw (← (put_first p (digit_of c) f q).0) (record { room = b.room; digit = λ h z. (rw (some_is z) at d, r) })
-    go (Some h) q =
-        let l = (b.digit h q).1 in
-        rw (← (put_second p (digit_of c) f h q).0) (record { room = omega arith; digit = λ g z. absurd (none≢some z) })
-
-pub begun_further : (p : Part) (r : ℕ) → Begun p → p.count + r ≤ 1486 → (0 < r → p.half ≡ None) → Begun (further p r)
-begun_further p r b h e =
-    record {
-      room = h;
-      digit = λ g z.
-          ((b.digit g z).0, by (ltb 0 r) (λ q. absurd (none≢some (sym (e (ltb-true 0 r q)) ∙ z))) (λ q. omega (arith, ltb-false 0 r q, (b.digit g z).1)));
-    }
+pub begun_first : {p : Part} (c : ℕ) → Begun p → fails p c ≡ false → p.half ≡ None → Begun (part p.count (Some (digit_of c)))
+begun_first {p} c b f e =
+    let d = put_digit p c f in
+    let r = leb-false 1486 p.count (sym (fails_room p c d e) ∙ f) in
+    record { room = b.room; digit = λ h z. (rw (some_is z) at d, r) }
 
 -- ---- whole bytes, two digits at a time
 

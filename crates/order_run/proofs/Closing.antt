@@ -13,12 +13,12 @@ use Rattle.judge.proofs.Laid.{laid_join, laid_nil}
 use Rattle.desk.specs.declared.Desk.{Desk}
 use Rattle.wire.proofs.Cases.{by}
 use Rattle.order_run.specs.Turns.{is_entry, is_over, Said, after_all, turn_of, Turned}
-use Rattle.order_run.specs.Feed.{nothing, St, Did, behind, read, after, begun, line_ended, closed, finished, Going, st_of, Feeds}
+use Rattle.order_run.specs.Part.{Part, nothing}
+use Rattle.order_run.specs.Feed.{St, Did, behind, read, after, begun, line_ended, closed, finished, Going, st_of, Feeds}
 use Rattle.order_run.specs.declared.Run.{Run}
-use Rattle.order_run.specs.declared.digits.Part.{Part}
 use Rattle.order_run.specs.declared.turns.Turn.{Turn}
 use Rattle.order_run.specs.declared.Fed.{Fed}
-use Rattle.order_run.proofs.Characters.{nothing_begun, still}
+use Rattle.order_run.proofs.Characters.{still}
 use Rattle.order_run.specs.declared.turns.Phase.{Phase}
 
 pub feeds_within : {x : Did} {n m : ℕ} {r : Fed} {f k o o' : List ℕ} → n ≤ m → Feeds x n r f k o o' → Feeds x m r f k o o'
@@ -109,6 +109,6 @@ module _ (s : St) {r : Fed} {f k o o₁ : List ℕ} (F : Feeds (line_ended s) 40
             ∙ ap (λ (y : List ℕ). laid y r.printed a.text) F.printed
             ∙ ap (λ (y : ℕ). laid (laid o 0 x.text) y a.text) j
             ∙ laid_join o 0 x.text a.text (omega (arith, T.fits, n, l));
-        going = record { good = T.good; begun = rw z nothing_begun };
+        going = record { good = T.good };
         short = λ v. absurd (true≢false (sym (all_over r.run.phase r.run.desk) ∙ v));
       })

@@ -42,7 +42,8 @@ use Rattle.order_text.proofs.Refused.{bad_character, odd_line, overlong_line, go
 use Rattle.order_run.specs.Entry.{form_of}
 use Rattle.order_run.specs.Turns.{is_over, called, lent_back, line_text, text_of, Said, failed, request, after_form, after_receive, after_reply, kept_reply, after_frame, kept_frame, after_all}
 use Rattle.order_run.specs.Printed.{lines_in, said, printed}
-use Rattle.order_run.specs.Feed.{nothing, st}
+use Rattle.order_run.specs.Part.{nothing}
+use Rattle.order_run.specs.Feed.{st}
 use Rattle.order_run.specs.Limits.{failing, Lines, Frame, verdict, number, with_chunk, request_line, Awaits, entered, asks, waits, Courses}
 use Rattle.order_run.proofs.Spoken.{number_0, number_1, number_2, number_last}
 use Rattle.order_run.proofs.Whole.{over_said, lines_at, said_line, said_bad}

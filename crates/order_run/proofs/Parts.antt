@@ -16,8 +16,8 @@ use Rattle.order_text.proofs.Digits.{byte_high, byte_low}
 use Rattle.order_text.proofs.Lines.{digit_at, byte_turn}
 use Rattle.order_text.proofs.Refused.{none_bad}
 use Rattle.order_run.specs.Table.{byte_in}
-use Rattle.order_run.specs.Feed.{part, fails, put_part, put_frame, Whole}
-use Rattle.order_run.specs.declared.digits.Part.{Part}
+use Rattle.order_run.specs.Part.{Part, part}
+use Rattle.order_run.specs.Feed.{fails, put_part, put_frame, Whole}
 
 pub none≢some : {X : Type 0} {h : ℕ} → ◌≡◌ {A = Option ℕ} None (Some h) → X
 none≢some e = absurd (true≢false (ap is_none e))

@@ -20,8 +20,8 @@ use Rattle.order_text.proofs.Lines.{head_digit, tail_good}
 use Rattle.order_text.proofs.Refused.{bad_character, odd_line, overlong_line, good_line, has_bad_lem}
 use Rattle.order_run.specs.Turns.{is_over, Said, failed, after_line, kept_line}
 use Rattle.order_run.specs.Printed.{lines_in, said, printed}
-use Rattle.order_run.specs.Feed.{nothing, St, st, Did, behind, end_said, end_kept, ended, stopped, fails, put_byte, put_frame, put, after, begun, line_ended, closed, finished, in_pieces, joined, st_of, AsPrinted}
-use Rattle.order_run.specs.declared.digits.Part.{Part}
+use Rattle.order_run.specs.Part.{Part, nothing}
+use Rattle.order_run.specs.Feed.{St, st, Did, behind, end_said, end_kept, ended, stopped, fails, put_byte, put_frame, put, after, begun, line_ended, closed, finished, in_pieces, joined, st_of, AsPrinted}
 use Rattle.order_run.specs.declared.Run.{Run}
 use Rattle.order_run.proofs.Parts.{fails_room, fails_not, put_first, put_second}
 use Rattle.order_run.proofs.Characters.{after_over, after_none, after_line_lem, after_put, after_bad, put_digit, no_line_end, end_whole, end_odd}

@@ -1,6 +1,6 @@
 -- The order program by characters, as they come: what a piece of input does to a run, and what it prints. That pieces give what the whole
 -- text gives, as Printed says it by lines, is `AsPrinted`, which proofs/Whole proves. Assumes nothing.
-use Rattle.std.specs.Prelude.{ℕ, ◌+◌, ◌*◌, ◌<◌, ◌≤◌, ◌≡◌, Bool, true, false, List, [], ◌∷◌, ◌++◌, eqb, ltb, leb, length, set, take, replicate, Option, Some, None, is_none}
+use Rattle.std.specs.Prelude.{ℕ, ◌+◌, ◌*◌, ◌≤◌, ◌≡◌, Bool, true, false, List, [], ◌∷◌, ◌++◌, eqb, ltb, leb, length, set, take, replicate, Option, Some, None, is_none}
 use Rattle.std.proofs.Math.Seq.{paste}
 use Rattle.wire.specs.Words.{pick}
 use Rattle.wire.specs.Store.{laid}
@@ -10,19 +10,12 @@ use Rattle.order_text.specs.Digits.{digit_of}
 use Rattle.order_text.specs.Lines.{has_bad, bytes_of}
 use Rattle.order_run.specs.Turns.{Said, is_over, failed, after_frame, kept_frame, after_all}
 use Rattle.order_run.specs.Printed.{printed}
-use Rattle.order_run.specs.declared.digits.Part.{Part}
+use Rattle.order_run.specs.Part.{Part, part, nothing}
 use Rattle.order_run.specs.declared.turns.Phase.{Phase}
 use Rattle.order_run.specs.declared.turns.Phase.TheVariants.{Entry}
 use Rattle.order_run.specs.declared.Run.{Run}
 use Rattle.order_run.specs.declared.Fed.{Fed}
 use Rattle.order_run.specs.declared.Buffers.{Buffers}
-
--- a line so far: count bytes at the front of the frame, and the digit of one that is begun
-abbrev pub part : ℕ → Option ℕ → Part
-part count half = record { count = count; half = half }
-
-abbrev pub nothing : Part
-nothing = part 0 None
 
 -- where a run stands, with its frame and its data buffer
 pub record St : Type 0 where
@@ -117,11 +110,6 @@ joined (p ∷ ps) = p ++ joined ps
 
 -- ---- what the functions promise
 
--- a part of a line as digits make it
-pub record Begun (p : Part) : Type 0 where
-  pub room : p.count ≤ 1486
-  pub digit : (high : ℕ) → p.half ≡ Some high → (high ≤ 15) × (p.count < 1486)
-
 abbrev pub further : Part → ℕ → Part
 further p more = part (p.count + more) p.half
 
@@ -135,7 +123,6 @@ pub record Whole (t : List ℕ) (at : ℕ) (f : List ℕ) (r : ℕ) (f' : List �
 -- a run that calls made from a fresh one
 pub record Going (r : Run) : Type 0 where
   pub good : Good r.desk
-  pub begun : Begun r.part
 
 -- a fresh run
 pub record Starts (r : Run) : Type 0 where

@@ -2,6 +2,7 @@ pub mod Entry
 pub mod Turns
 pub mod Printed
 pub mod Table
+pub mod Part
 pub mod Feed
 pub mod Examples
 pub mod One

@@ -1,8 +1,10 @@
 // A line as its digits come: the bytes so far stand at the front of the frame.
-ghost use Rattle.std.specs.Prelude.{◌≡◌, None, ◌+◌, ◌≤◌, ◌<◌, length, drop};
-ghost use Rattle.order_run.specs.Feed.{nothing as Feed·nothing, begun, further as Feed·further, fails, put_part, put_frame, Begun, Whole};
+ghost use Rattle.std.specs.Prelude.{◌≡◌, false, None, ◌+◌, ◌*◌, ◌≤◌, ◌<◌, length, drop};
+ghost use Rattle.order_text.specs.Digits.{digit_of};
+ghost use Rattle.order_run.specs.Feed.{Whole};
 
 use crate::table::DigitTable;
+use std::marker::Model;
 
 // "at most 1,486 bytes each"
 pub const LONGEST: usize = 1486;
@@ -10,55 +12,20 @@ pub const LONGEST: usize = 1486;
 // How many bytes there are, and the first digit of one that is begun.
 #[derive(Clone, Copy)]
 pub struct Part {
-    pub count: usize,
-    pub half: Option<u8>,
+    pub(crate) count: usize,
+    pub(crate) half: Option<u8>,
 }
 
-pub(crate) fn nothing() -> Part
-    ensures { result ≡ Feed·nothing }
-{
-    Part {
-        count: 0,
-        half: None,
-    }
-}
+impl Model for Part {
+    ghost use Rattle.order_run.specs.Part.{Part, part, Begun};
 
-// Whether a line has characters that no line end has followed.
-#[tactic(auto, using(wire::proofs::Tests::tests), unfolding(crate::specs::Feed::begun))]
-pub(crate) fn is_begun(part: Part) -> bool
-    ensures { result ≡ begun part }
-{
-    part.half.is_some() || 0 < part.count
-}
+    ghost Value = { Part };
 
-#[tactic(auto, using(wire::proofs::Tests::tests), unfolding(crate::specs::Feed::fails))]
-pub(crate) fn is_bad(part: Part, c: u8) -> bool
-    ensures { result ≡ fails part c }
-{
-    15 < order_text::digit(c) || part.half.is_none() && LONGEST <= part.count
-}
+    ghost view = { λ p. part p.count p.half };
 
-#[tactic(auto, unfolding(crate::specs::Feed::put_part, crate::specs::Feed::put_frame))]
-pub(crate) fn put(part: Part, digit: u8, frame: &mut [u8]) -> Part
-    requires begun { Begun part }
-    requires digit_bound { digit < 16 }
-    requires frame_len { length frame.old ≡ 1486 }
-    ensures { (result ≡ put_part part digit) × (frame.new ≡ put_frame part digit frame.old) }
-{
-    let count = part.count;
-    match part.half {
-        None => Part {
-            count,
-            half: Some(digit),
-        },
-        Some(high) => {
-            frame[count] = 16 * high + digit;
-            Part {
-                count: count + 1,
-                half: None,
-            }
-        }
-    }
+    ghost invariant = { λ p. Begun (part p.count p.half) };
+
+    ghost inverse = { λ p. record { count = p.count; half = p.half } };
 }
 
 // The bytes that the text begins with, as far as they have room; answers how many.
@@ -77,31 +44,81 @@ fn pairs(table: &DigitTable, text: &[u8], frame: &mut [u8], at: usize) -> usize
     most
 }
 
-// The same from a place of the text on, where no byte is begun: how many bytes are taken two digits at a time.
-pub(crate) fn whole_bytes(
-    table: &DigitTable,
-    text: &[u8],
-    from: usize,
-    part: Part,
-    frame: &mut [u8],
-) -> usize
-    requires from_in_bounds { from ≤ length text.now }
-    requires begun { Begun part }
-    requires frame_len { length frame.old ≡ 1486 }
-    ensures { Whole (drop from text.now) part.count frame.old result frame.new × (0 < result → part.half ≡ None) }
-{
-    match part.half {
-        None => pairs(table, &text[from..], frame, part.count),
-        Some(_) => 0,
-    }
-}
+impl Part {
+    ghost use Rattle.order_run.specs.Part.{nothing};
+    ghost use Rattle.order_run.specs.Feed.{begun, further, fails, put_part, put_frame};
 
-pub(crate) fn further(part: Part, more: usize) -> Part
-    requires { part.count + more ≤ 1486 }
-    ensures { result ≡ Feed·further part more }
-{
-    Part {
-        count: part.count + more,
-        half: part.half,
+    pub(crate) fn nothing() -> Part
+        ensures { result ≡ nothing }
+    {
+        Part {
+            count: 0,
+            half: None,
+        }
+    }
+
+    // Whether a line has characters that no line end has followed.
+    #[tactic(auto, using(wire::proofs::Tests::tests), unfolding(crate::specs::Feed::begun))]
+    pub(crate) fn is_begun(self) -> bool
+        ensures { result ≡ begun self }
+    {
+        self.half.is_some() || 0 < self.count
+    }
+
+    #[tactic(auto, using(wire::proofs::Tests::tests), unfolding(crate::specs::Feed::fails))]
+    pub(crate) fn is_bad(self, c: u8) -> bool
+        ensures { result ≡ fails self c }
+    {
+        15 < order_text::digit(c) || self.half.is_none() && LONGEST <= self.count
+    }
+
+    #[tactic(auto, unfolding(crate::specs::Feed::put_part, crate::specs::Feed::put_frame))]
+    pub(crate) fn put(self, c: u8, frame: &mut [u8]) -> Part
+        requires good { fails self c ≡ false }
+        requires frame_len { length frame.old ≡ 1486 }
+        ensures { (result ≡ put_part self (digit_of c)) × (frame.new ≡ put_frame self (digit_of c) frame.old) }
+    {
+        let digit = order_text::digit(c);
+        let count = self.count;
+        let Some(high) = self.half else {
+            return Part {
+                count,
+                half: Some(digit),
+            };
+        };
+        frame[count] = 16 * high + digit;
+        Part {
+            count: count + 1,
+            half: None,
+        }
+    }
+
+    // Where no byte is begun: how many bytes the text from a place on begins with, taken two digits at a time.
+    pub(crate) fn whole_bytes(
+        self,
+        table: &DigitTable,
+        text: &[u8],
+        from: usize,
+        frame: &mut [u8],
+    ) -> usize
+        requires from_in_bounds { from ≤ length text.now }
+        requires frame_len { length frame.old ≡ 1486 }
+        ensures { Whole (drop from text.now) self.count frame.old result frame.new × (0 < result → self.half ≡ None) }
+    {
+        match self.half {
+            None => pairs(table, &text[from..], frame, self.count),
+            Some(_) => 0,
+        }
+    }
+
+    pub(crate) fn further(self, more: usize) -> Part
+        requires room { self.count + more ≤ 1486 }
+        requires whole { 0 < more → self.half ≡ None }
+        ensures { result ≡ further self more }
+    {
+        Part {
+            count: self.count + more,
+            half: self.half,
+        }
     }
 }

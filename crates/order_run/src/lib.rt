@@ -10,11 +10,11 @@ pub mod turns;
 ghost use Rattle.std.specs.Prelude.{◌≡◌, ◌+◌, ◌*◌, ◌≤◌, length, take, replicate};
 ghost use Rattle.desk.specs.Record.{Good};
 ghost use Rattle.order_run.specs.Turns.{Says};
-ghost use Rattle.order_run.specs.Feed.{st_of, st_in, st, after, line_ended, finished, end_said, end_kept, Begun, Going, Starts, Feeds};
+ghost use Rattle.order_run.specs.Feed.{st_of, st_in, st, after, line_ended, finished, end_said, end_kept, Going, Starts, Feeds};
 
 use desk::Desk;
 use desk::change::Change;
-use digits::{LONGEST, Part, further, is_bad, is_begun, nothing, put, whole_bytes};
+use digits::{LONGEST, Part};
 use table::DigitTable;
 use turns::{Phase, all_read, frame_read, is_quiet, last_number, print_answer};
 use wire::refusal::Refusal;
@@ -64,7 +64,7 @@ pub fn start() -> Run
     ensures { Starts result }
 {
     let desk = Desk::fresh();
-    let part = nothing();
+    let part = Part::nothing();
     Run {
         desk,
         phase: Phase::Entry,
@@ -80,7 +80,6 @@ fn line_end(
     data: &mut [u8],
 ) -> Option<Result<Change, Refusal>>
     requires good { Good desk }
-    requires begun { Begun part }
     requires frame_len { (length frame.now ≡ 1486) × (length «data».old ≡ 4096) }
     ensures { Says desk (end_said (st desk phase part frame.now «data».old)) result «data».new × («data».new ≡ end_kept (st desk phase part frame.now «data».old)) }
 {
@@ -114,26 +113,26 @@ fn feed_piece(
         if phase.is_over() {
             break 'lines;
         }
-        let whole = whole_bytes(table, text, i, part, frame);
-        part = further(part, whole);
+        let whole = part.whole_bytes(table, text, i, frame);
+        part = part.further(whole);
         i += 2 * whole;
         while i < text.len() {
             let c = text[i];
             if c == b'\n' {
                 break;
             }
-            if is_bad(part, c) {
+            if part.is_bad(c) {
                 let bad = last_number(desk, 0xff, out, printed);
                 desk = bad.desk;
                 phase = bad.phase;
-                part = nothing();
+                part = Part::nothing();
                 printed = bad.end;
                 break 'lines;
             }
-            part = put(part, order_text::digit(c), frame);
+            part = part.put(c, frame);
             i += 1;
-            let more = whole_bytes(table, text, i, part, frame);
-            part = further(part, more);
+            let more = part.whole_bytes(table, text, i, frame);
+            part = part.further(more);
             i += 2 * more;
         }
         if i < text.len() {
@@ -162,7 +161,7 @@ fn feed_piece(
                     printed = turn.end;
                 }
             }
-            part = nothing();
+            part = Part::nothing();
             i += 1;
         }
     }
@@ -191,8 +190,7 @@ fn last_line(run: Run, buffers: &mut Buffers) -> Fed
     requires { Going run }
     ensures { Feeds (line_ended (st_in run buffers.old)) 4096 result buffers.new.frame buffers.new.«data» buffers.old.out buffers.new.out }
 {
-    let part = run.part;
-    if is_begun(part) {
+    if run.part.is_begun() {
         return feed(run, b"\n", buffers);
     }
     Fed { run, printed: 0 }
@@ -213,7 +211,7 @@ pub fn finish(run: Run, buffers: &mut Buffers) -> Fed
     }
     let turn = all_read(desk, phase, &mut buffers.out, printed);
     let last = turn.desk;
-    let part = nothing();
+    let part = Part::nothing();
     let run = Run {
         desk: last,
         phase: turn.phase,

@@ -1,21 +1,20 @@
 -- `feed_piece` meets its contract. Both loops have one invariant each: what is left to do from here gives what the whole gives.
 use Rattle.std.specs.Prelude.{None}
-use mathlib.Core.Path.{◌≡◌, sym, ap, ◌∙◌}
+use mathlib.Core.Path.{◌≡◌, sym, ◌∙◌}
 use mathlib.Core.Bool.{false}
 use mathlib.Core.List.{List}
 use Prim.Native.Nat.{ℕ, ◌+◌, ◌*◌, ◌<◌, ◌≤◌}
 use native.Mathlib.Omega.{arith}
 use lib.ListN.{length, get_or, drop}
 use Rattle.desk.specs.declared.Desk.{Desk}
-use Rattle.order_run.specs.declared.digits.Part.{Part}
 use Rattle.order_run.specs.Turns.{is_over, Turned}
 use Rattle.order_run.specs.declared.turns.Phase.{Phase}
-use Rattle.order_run.specs.Feed.{St, st, further, put_part, put_frame, end_said, Whole}
+use Rattle.order_run.specs.Part.{Part}
+use Rattle.order_run.specs.Feed.{St, st, further, end_said, Whole}
 use Rattle.order_run.proofs.Spoken.{turned_as, turned_at, quiet_turned}
-use Rattle.order_run.proofs.Characters.{put_digit, begun_put}
-use Rattle.order_run.proofs.Feeding.{Digits, Lines, digits_start, through, digits_put, digits_whole, line_done, rested_over, rested_end, rested_bad}
+use Rattle.order_run.proofs.Feeding.{Digits, Lines, digits_start, through, digits_put, digits_whole, line_done, rested_over, rested_end, rested_bad, feeds_at}
 use Rattle.order_run.proofs.feed_piece.Goals as goal
-use Rattle.order_run.proofs.feed_piece.Goals.{else-loop-i-test, then-loop-i-test+then-c-eq10, in-Some+in-Ok, in-Some+in_default, in_default-via-in_default, in_default-via-in-Ok+else-is_quiet, in-None}
+use Rattle.order_run.proofs.feed_piece.Goals.{else-loop-i-test, then-loop-i-test+then-c-eq10, in-Some+in-Ok, in-Some+in_default, in_default-via-in_default, in_default-via-in-Ok+else-is_quiet, in-None, else-lines-test, then-lines-test+then-is_over, then-lines-test+else-is_over+then-loop-i-test+else-c-eq10+then-is_bad}
 
 -- the lines so far, the whole bytes that a line is gone on with, and the digits behind them
 gone_on : {t : List ℕ} {s₁ : St} {o₁ : List ℕ} {d : Desk} {ph : Phase} {p : Part} {f k o : List ℕ} {n i : ℕ} {p₂ : Part} {f₂ : List ℕ} {m : ℕ}
@@ -25,24 +24,14 @@ gone_on : {t : List ℕ} {s₁ : St} {o₁ : List ℕ} {d : Desk} {ph : Phase} {
     → Digits t k d ph p₂ f₂ o n (i + 2 * m) d' ph' p' f' o' n' i' → Lines t s₁ o₁ (st d' ph' p' f' k) o' n' i'
 gone_on L b g w l e D = through (through L (digits_whole (digits_start L b g) w.0 w.1 (l ∙ L.long) e)) D
 
-pub put-part-requires-clause-digit_bound : goal.put-part-requires-clause-digit_bound
-put-part-requires-clause-digit_bound c =
-    omega (arith, c.digit.ensures, put_digit _ _ (sym c.is_bad.ensures ∙ c.if-is_bad.false))
-
-pub whole_bytes-more-requires-clause-begun : goal.whole_bytes-more-requires-clause-begun
-whole_bytes-more-requires-clause-begun c =
-    let l = c.loop-i in
-    rw (c.put-part.ensures.0 ∙ ap (put_part l.part) c.digit.ensures) (begun_put l.part _ l.frame l.invariant.begun (sym c.is_bad.ensures ∙ c.if-is_bad.false))
-
 pub loop-i-preserved : goal.loop-i-preserved
 loop-i-preserved c =
     let l = c.loop-i in
     let p = c.put-part in
     let w = c.whole_bytes-more in
-    let g = c.digit.ensures in
     digits_whole
     (digits_put l.invariant c.loop-i-test.true c.if-c-eq10.false (sym c.is_bad.ensures ∙ c.if-is_bad.false)
-    (p.ensures.0 ∙ ap (put_part l.part) g) (p.ensures.1 ∙ ap (λ (x : ℕ). put_frame l.part x l.frame) g) (p.auto.frame ∙ l.invariant.long))
+    p.ensures.0 p.ensures.1 (p.auto.frame ∙ l.invariant.long))
     w.ensures.0 w.ensures.1 (w.auto.frame ∙ p.auto.frame ∙ l.invariant.long) c.further-part-in-loop-i.ensures
 
 pub lines-preserved-then-i-text : goal.lines-preserved-then-i-text
@@ -72,17 +61,16 @@ lines-preserved c =
     let w = c.whole_bytes-whole in
     gone_on c.lines.invariant c.requires.text_len_bound (sym c.is_over.ensures ∙ c.if-is_over.false) w.ensures w.auto.frame c.further-part.ensures c.loop-i.invariant
 
-pub returns-after-lines : goal.returns-after-lines
-returns-after-lines c =
-    rested_end c.lines.invariant c.lines-test.false
-
-pub returns-then-is_over : goal.returns-then-is_over
-returns-then-is_over c =
-    rested_over c.lines.invariant (sym c.is_over.ensures ∙ c.if-is_over.true)
-
-pub returns-then-is_bad : goal.returns-then-is_bad
-returns-then-is_bad c =
-    let D = c.loop-i.invariant in
-    let w = c.whole_bytes-whole in
-    rested_bad (gone_on c.lines.invariant c.requires.text_len_bound (sym c.is_over.ensures ∙ c.if-is_over.false) w.ensures w.auto.frame c.further-part.ensures D)
-    c.loop-i-test.true c.if-c-eq10.false D.going (sym c.is_bad.ensures ∙ c.if-is_bad.true) c.last_number-bad.ensures c.nothing-part.ensures
+pub returns : goal.returns
+returns c =
+    elim c.lines-test.branch [
+      | else-lines-test w ↦ feeds_at w.desk-is w.phase-is w.part-is w.printed-is w.frame-is w.out-is (rested_end c.lines.invariant w.lines-test.false)
+      | then-lines-test+then-is_over w ↦
+          feeds_at w.desk-is w.phase-is w.part-is w.printed-is w.frame-is w.out-is (rested_over c.lines.invariant (sym w.is_over.ensures ∙ w.if-is_over.true))
+      | then-lines-test+else-is_over+then-loop-i-test+else-c-eq10+then-is_bad w ↦
+          let D = w.loop-i.invariant in
+          let b = w.whole_bytes-whole in
+          feeds_at w.desk-is w.phase-is w.part-is w.printed-is w.frame-is w.out-is
+          (rested_bad (gone_on c.lines.invariant c.requires.text_len_bound (sym w.is_over.ensures ∙ w.if-is_over.false) b.ensures b.auto.frame w.further-part.ensures D)
+          w.loop-i-test.true w.if-c-eq10.false D.going (sym w.is_bad.ensures ∙ w.if-is_bad.true) w.last_number-bad.ensures w.nothing-part.ensures)
+    ]
