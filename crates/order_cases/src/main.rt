@@ -2,9 +2,6 @@
 // followed by a line `=`. tools/cases/orders writes both files. A test program: its lines are compared.
 #![tactic(auto)]
 
-ghost use Rattle.std.specs.Prelude.{IfOk};
-ghost use Rattle.order_run.specs.Feed.{Going};
-
 use order_run::{Buffers, Run};
 use std::io;
 use std::io::{Read, Write};
@@ -12,13 +9,10 @@ use std::io::{Read, Write};
 const PIECE: u64 = 4096;
 
 // The order ends, and a new run begins. What the order left in the buffers stays there, and is never printed.
-fn renewed(output: &mut impl Write, run: Run, buffers: &mut Buffers) -> io::Result<Run>
-    requires { Going run }
-    ensures { IfOk result Going }
-{
+fn renewed(output: &mut impl Write, run: Run, buffers: &mut Buffers) -> io::Result<Run> {
     order_io::ended(output, run, buffers)?;
     output.write_all(b"=\n")?;
-    Ok(order_run::start())
+    Ok(Run::start())
 }
 
 fn orders(
@@ -26,10 +20,7 @@ fn orders(
     first: Run,
     text: &[u8],
     buffers: &mut Buffers,
-) -> io::Result<Run>
-    requires { Going first }
-    ensures { IfOk result Going }
-{
+) -> io::Result<Run> {
     let mut run = first;
     let mut rest = text;
     // a `for` over `split` was tried, and gets no proof: the check makes no type of its iterator in a function over `impl Write`
@@ -48,7 +39,7 @@ fn pieces(
     piece: &mut Vec<u8>,
     buffers: &mut Buffers,
 ) -> io::Result<()> {
-    let mut run = order_run::start();
+    let mut run = Run::start();
     for _ in 0..1024 {
         piece.clear();
         input.by_ref().take(PIECE).read_to_end(piece)?;

@@ -2,7 +2,7 @@
 #![tactic(auto)]
 
 ghost use Rattle.std.specs.Prelude.{◌≡◌, take, IfOk, OnErr};
-ghost use Rattle.order_run.specs.Feed.{st_in, after, finished, Going};
+ghost use Rattle.order_run.specs.Feed.{st_in, after, finished};
 ghost use Rattle.order_io.specs.Shown.{Shows, Leaves};
 
 use order_run::{Buffers, Fed, Run};
@@ -21,21 +21,19 @@ fn print(output: &mut impl Write, fed: Fed, out: &[u8]) -> io::Result<Run>
 
 // A piece that was read. It is fed before anything is written, so that where a write fails the lent buffers are as it left them.
 pub fn fed(output: &mut impl Write, run: Run, text: &[u8], buffers: &mut Buffers) -> io::Result<Run>
-    requires { Going run }
     ensures ok { IfOk result (λ r. Shows (after (st_in run buffers.old) (take 4096 text.now)) r buffers.new.frame buffers.new.«data» buffers.old.out buffers.new.out) }
     ensures err { OnErr result (Leaves (after (st_in run buffers.old) (take 4096 text.now)) buffers.new.frame buffers.new.«data» buffers.old.out buffers.new.out) }
 {
-    let fed = order_run::feed(run, text, buffers);
+    let fed = run.feed(text, buffers);
     print(output, fed, &buffers.out)
 }
 
 // The end of the input.
 pub fn ended(output: &mut impl Write, run: Run, buffers: &mut Buffers) -> io::Result<Run>
-    requires { Going run }
     ensures ok { IfOk result (λ r. Shows (finished (st_in run buffers.old)) r buffers.new.frame buffers.new.«data» buffers.old.out buffers.new.out) }
     ensures err { OnErr result (Leaves (finished (st_in run buffers.old)) buffers.new.frame buffers.new.«data» buffers.old.out buffers.new.out) }
 {
-    let fed = order_run::finish(run, buffers);
+    let fed = run.finish(buffers);
     print(output, fed, &buffers.out)
 }
 
@@ -46,10 +44,7 @@ fn turn(
     run: Run,
     piece: &mut [u8],
     buffers: &mut Buffers,
-) -> io::Result<Run>
-    requires { Going run }
-    ensures { IfOk result Going }
-{
+) -> io::Result<Run> {
     let n = input.read(piece)?;
     if n == 0 {
         return ended(output, run, buffers);
@@ -65,13 +60,11 @@ pub fn turns(
     output: &mut impl Write,
     piece: &mut [u8],
     buffers: &mut Buffers,
-) -> io::Result<Run>
-    ensures { IfOk result Going }
-{
-    let mut run = order_run::start();
+) -> io::Result<Run> {
+    let mut run = Run::start();
     for _ in 0..u64::MAX {
         run = turn(input, output, run, piece, buffers)?;
-        if run.phase.is_over() {
+        if run.is_over() {
             break;
         }
     }

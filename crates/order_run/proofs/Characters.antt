@@ -39,12 +39,8 @@ module _ (s : St) where
 
 pub started : (d : Desk) (p : Part) → Fresh first_counter d → p ≡ nothing → Starts (record { desk = d; phase = Entry; part = p })
 started d p F e =
-    record {
-      told =
-          ap (λ (x : Desk). record { desk = x; phase = Entry; part = p }) F.empty
-          ∙ ap (λ (x : Part). record { desk = empty_at 1; phase = Entry; part = x }) e;
-      going = record { good = F.good };
-    }
+    ap (λ (x : Desk). record { desk = x; phase = Entry; part = p }) F.empty
+    ∙ ap (λ (x : Part). record { desk = empty_at 1; phase = Entry; part = x }) e
 
 -- ---- what a character does
 

@@ -190,7 +190,6 @@ module _ {t : List ℕ} {s₁ : St} {o₁ : List ℕ} {s : St} {o : List ℕ} {n
         framed = refl;
         stored = refl;
         printed = L.out;
-        going = record { good = L.good };
         short = λ g. omega (arith, L.short g, L.within);
       })
 
@@ -217,7 +216,6 @@ module _ {t : List ℕ} {s₁ : St} {o₁ : List ℕ} {s : St} {o : List ℕ} {n
         framed = refl;
         stored = refl;
         printed = printed_more x r o' T;
-        going = record { good = T.good };
         short = λ v. absurd (true≢false v);
       })
 

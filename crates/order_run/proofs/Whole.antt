@@ -22,7 +22,7 @@ use Rattle.order_run.specs.Turns.{is_over, Said, failed, after_line, kept_line}
 use Rattle.order_run.specs.Printed.{lines_in, said, printed}
 use Rattle.order_run.specs.Part.{Part, nothing}
 use Rattle.order_run.specs.Feed.{St, st, Did, behind, end_said, end_kept, ended, stopped, fails, put_byte, put_frame, put, after, begun, line_ended, closed, finished, in_pieces, joined, st_of, AsPrinted}
-use Rattle.order_run.specs.declared.Run.{Run}
+use Rattle.order_run.specs.Run.{Run}
 use Rattle.order_run.proofs.Parts.{fails_room, fails_not, put_first, put_second}
 use Rattle.order_run.proofs.Characters.{after_over, after_none, after_line_lem, after_put, after_bad, put_digit, no_line_end, end_whole, end_odd}
 use Rattle.order_run.proofs.Closing.{begun_bytes, begun_digit}
@@ -307,6 +307,6 @@ pub as_printed : AsPrinted
 unfolding printed
 as_printed r S f l ps =
     let s = st (empty_at 1) Entry nothing f (replicate 4096 0) in
-    ap (λ (x : Run). in_pieces (st_of x f (replicate 4096 0)) ps) S.told
+    ap (λ (x : Run). in_pieces (st_of x f (replicate 4096 0)) ps) S
     ∙ pieces ps s
     ∙ by_lines (joined ps) s l (whole [] refl (no_pairs f))

@@ -3,6 +3,7 @@ pub mod Turns
 pub mod Printed
 pub mod Table
 pub mod Part
+pub mod Run
 pub mod Feed
 pub mod Examples
 pub mod One

@@ -9,12 +9,13 @@ pub mod turns;
 
 ghost use Rattle.std.specs.Prelude.{◌≡◌, ◌+◌, ◌*◌, ◌≤◌, length, take, replicate};
 ghost use Rattle.desk.specs.Record.{Good};
-ghost use Rattle.order_run.specs.Turns.{Says};
-ghost use Rattle.order_run.specs.Feed.{st_of, st_in, st, after, line_ended, finished, end_said, end_kept, Going, Starts, Feeds};
+ghost use Rattle.order_run.specs.Turns.{is_over, Says};
+ghost use Rattle.order_run.specs.Feed.{st_of, st_in, st, after, line_ended, finished, end_said, end_kept, Starts, Feeds};
 
 use desk::Desk;
 use desk::change::Change;
 use digits::{LONGEST, Part};
+use std::marker::Model;
 use table::DigitTable;
 use turns::{Phase, all_read, frame_read, is_quiet, last_number, print_answer};
 use wire::refusal::Refusal;
@@ -48,9 +49,22 @@ impl Buffers {
 // Where a run stands between two pieces: the desk, the phase, and the line that has no end yet.
 #[derive(Clone, Copy)]
 pub struct Run {
-    pub desk: Desk,
-    pub phase: Phase,
-    pub part: Part,
+    desk: Desk,
+    phase: Phase,
+    part: Part,
+}
+
+impl Model for Run {
+    ghost use Rattle.desk.specs.Record.{Good};
+    ghost use Rattle.order_run.specs.Run.{Run};
+
+    ghost Value = { Run };
+
+    ghost view = { λ r. record { desk = r.desk; phase = r.phase; part = r.part } };
+
+    ghost invariant = { λ r. Good r.desk };
+
+    ghost inverse = { λ r. record { desk = r.desk; phase = r.phase; part = r.part } };
 }
 
 // The run after a piece, and how many characters to print stand at the front of the output.
@@ -58,18 +72,6 @@ pub struct Run {
 pub struct Fed {
     pub run: Run,
     pub printed: usize,
-}
-
-pub fn start() -> Run
-    ensures { Starts result }
-{
-    let desk = Desk::fresh();
-    let part = Part::nothing();
-    Run {
-        desk,
-        phase: Phase::Entry,
-        part,
-    }
 }
 
 fn line_end(
@@ -98,7 +100,6 @@ fn feed_piece(
     data: &mut [u8],
     out: &mut [u8],
 ) -> Fed
-    requires going { Going run }
     requires text_len_bound { length text.now ≤ 4096 }
     requires frame_len { (length frame.old ≡ 1486) × (length «data».old ≡ 4096) × (length out.old ≡ 143363) }
     ensures { Feeds (after (st_of run frame.old «data».old) text.now) (length text.now) result frame.new «data».new out.old out.new }
@@ -169,56 +170,73 @@ fn feed_piece(
     Fed { run, printed }
 }
 
-// A piece of the input, its first 4,096 characters.
-pub fn feed(run: Run, text: &[u8], buffers: &mut Buffers) -> Fed
-    requires { Going run }
-    ensures { Feeds (after (st_in run buffers.old) (take 4096 text.now)) 4096 result buffers.new.frame buffers.new.«data» buffers.old.out buffers.new.out }
-{
-    let end = PIECE.min(text.len());
-    feed_piece(
-        run,
-        &DigitTable::new(),
-        &text[..end],
-        &mut buffers.frame,
-        &mut buffers.data,
-        &mut buffers.out,
-    )
-}
-
-// A last line that lacks its line end gets it.
-fn last_line(run: Run, buffers: &mut Buffers) -> Fed
-    requires { Going run }
-    ensures { Feeds (line_ended (st_in run buffers.old)) 4096 result buffers.new.frame buffers.new.«data» buffers.old.out buffers.new.out }
-{
-    if run.part.is_begun() {
-        return feed(run, b"\n", buffers);
+impl Run {
+    pub fn start() -> Run
+        ensures { Starts result }
+    {
+        let desk = Desk::fresh();
+        let part = Part::nothing();
+        Run {
+            desk,
+            phase: Phase::Entry,
+            part,
+        }
     }
-    Fed { run, printed: 0 }
-}
 
-// The end of the input.
-pub fn finish(run: Run, buffers: &mut Buffers) -> Fed
-    requires { Going run }
-    ensures { Feeds (finished (st_in run buffers.old)) 4096 result buffers.new.frame buffers.new.«data» buffers.old.out buffers.new.out }
-{
-    let fed = last_line(run, buffers);
-    let ended = fed.run;
-    let printed = fed.printed;
-    let desk = ended.desk;
-    let phase = ended.phase;
-    if phase.is_over() {
-        return fed;
+    pub fn is_over(self) -> bool
+        ensures { result ≡ is_over self.phase }
+    {
+        self.phase.is_over()
     }
-    let turn = all_read(desk, phase, &mut buffers.out, printed);
-    let last = turn.desk;
-    let part = Part::nothing();
-    let run = Run {
-        desk: last,
-        phase: turn.phase,
-        part,
-    };
-    Fed {
-        run,
-        printed: turn.end,
+
+    // A piece of the input, its first 4,096 characters.
+    pub fn feed(self, text: &[u8], buffers: &mut Buffers) -> Fed
+        ensures { Feeds (after (st_in self buffers.old) (take 4096 text.now)) 4096 result buffers.new.frame buffers.new.«data» buffers.old.out buffers.new.out }
+    {
+        let end = PIECE.min(text.len());
+        feed_piece(
+            self,
+            &DigitTable::new(),
+            &text[..end],
+            &mut buffers.frame,
+            &mut buffers.data,
+            &mut buffers.out,
+        )
+    }
+
+    // A last line that lacks its line end gets it.
+    fn last_line(self, buffers: &mut Buffers) -> Fed
+        ensures { Feeds (line_ended (st_in self buffers.old)) 4096 result buffers.new.frame buffers.new.«data» buffers.old.out buffers.new.out }
+    {
+        if self.part.is_begun() {
+            return self.feed(b"\n", buffers);
+        }
+        Fed {
+            run: self,
+            printed: 0,
+        }
+    }
+
+    // The end of the input.
+    pub fn finish(self, buffers: &mut Buffers) -> Fed
+        ensures { Feeds (finished (st_in self buffers.old)) 4096 result buffers.new.frame buffers.new.«data» buffers.old.out buffers.new.out }
+    {
+        let fed = self.last_line(buffers);
+        let ended = fed.run;
+        if ended.phase.is_over() {
+            return fed;
+        }
+        let turn = all_read(ended.desk, ended.phase, &mut buffers.out, fed.printed);
+        let desk = turn.desk;
+        let part = Part::nothing();
+        let run = Run {
+            desk,
+            phase: turn.phase,
+            part,
+        };
+        Fed {
+            run,
+            printed: turn.end,
+        }
     }
 }

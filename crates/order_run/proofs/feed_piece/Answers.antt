@@ -63,7 +63,8 @@ lines-preserved c =
 
 pub returns : goal.returns
 returns c =
-    elim c.lines-test.branch [
+    rw (← c.run.view_is)
+    (elim c.lines-test.branch [
       | else-lines-test w ↦ feeds_at w.desk-is w.phase-is w.part-is w.printed-is w.frame-is w.out-is (rested_end c.lines.invariant w.lines-test.false)
       | then-lines-test+then-is_over w ↦
           feeds_at w.desk-is w.phase-is w.part-is w.printed-is w.frame-is w.out-is (rested_over c.lines.invariant (sym w.is_over.ensures ∙ w.if-is_over.true))
@@ -73,4 +74,4 @@ returns c =
           feeds_at w.desk-is w.phase-is w.part-is w.printed-is w.frame-is w.out-is
           (rested_bad (gone_on c.lines.invariant c.requires.text_len_bound (sym w.is_over.ensures ∙ w.if-is_over.false) b.ensures b.auto.frame w.further-part.ensures D)
           w.loop-i-test.true w.if-c-eq10.false D.going (sym w.is_bad.ensures ∙ w.if-is_bad.true) w.last_number-bad.ensures w.nothing-part.ensures)
-    ]
+    ])

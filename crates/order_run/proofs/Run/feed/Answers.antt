@@ -5,7 +5,7 @@ use native.Mathlib.Omega.{arith}
 use lib.ListN.{take, length-take}
 use Rattle.order_run.proofs.Printing.{take_least}
 use Rattle.order_run.proofs.Closing.{feeds_within}
-use Rattle.order_run.proofs.feed.Goals as goal
+use Rattle.order_run.proofs.Run.feed.Goals as goal
 
 pub returns : goal.returns
 returns c =
