@@ -8,14 +8,13 @@ use native.Mathlib.Omega.{arith}
 use lib.Dec.{ltb, leb}
 use lib.ListN.{length, get_or, set, take, length-take}
 use lib.Seq.{paste-zero, get_or-take}
-use borrow.Author.Tests.{lt-ltb, le-ltb, ltb-true, ltb-false, lt-leb, le-leb, leb-true, leb-false}
+use borrow.Author.Tests.{lt-ltb, le-ltb, ltb-true, ltb-false, leb-true, leb-false}
 use Rattle.wire.proofs.Cases.{by}
-use Rattle.order_text.specs.Digits.{digit_of, byte_of}
+use Rattle.order_text.specs.Digits.{digit_of, byte_of, byte_in}
 use Rattle.order_text.specs.Lines.{has_bad, bytes_of}
-use Rattle.order_text.proofs.Digits.{byte_high, byte_low}
+use Rattle.order_text.proofs.Digits.{byte_high, byte_low, no_byte, one_byte}
 use Rattle.order_text.proofs.Lines.{digit_at, byte_turn}
 use Rattle.order_text.proofs.Refused.{none_bad}
-use Rattle.order_run.specs.Table.{byte_in}
 use Rattle.order_run.specs.Part.{Part, part}
 use Rattle.order_run.specs.Feed.{fails, put_part, put_frame, Whole}
 
@@ -54,17 +53,11 @@ module _ (p : Part) (d : ℕ) (f : List ℕ) where
 -- ---- whole bytes
 
 module _ (a b : ℕ) where
-  pub no_byte : 255 < byte_of a b → ◌≡◌ {A = Option ℕ} None (byte_in a b)
-  no_byte h = sym (rw (lt-leb (byte_of a b) 255 h))
-
-  pub one_byte : byte_of a b ≤ 255 → ◌≡◌ {A = Option ℕ} (Some (byte_of a b)) (byte_in a b)
-  one_byte h = sym (rw (le-leb (byte_of a b) 255 h))
-
   pub is_byte : {x : ℕ} → ◌≡◌ {A = Option ℕ} (byte_in a b) (Some x) → (x ≡ byte_of a b) × (byte_of a b ≤ 255)
   is_byte e =
       by (leb (byte_of a b) 255)
-      (λ h. (sym (some_is (one_byte (leb-true (byte_of a b) 255 h) ∙ e)), leb-true (byte_of a b) 255 h))
-      (λ h. none≢some (no_byte (leb-false (byte_of a b) 255 h) ∙ e))
+      (λ h. (sym (some_is (one_byte a b (leb-true (byte_of a b) 255 h) ∙ e)), leb-true (byte_of a b) 255 h))
+      (λ h. none≢some (no_byte a b (leb-false (byte_of a b) 255 h) ∙ e))
 
 both_digits : (a b : ℕ) → byte_of a b ≤ 255 → (digit_of a ≤ 15) × (digit_of b ≤ 15)
 both_digits a b h =

@@ -1,8 +1,8 @@
 // What order_text::digit says of each character. A table is read faster than the ranges are tested, and is made once for a piece.
 ghost use Rattle.std.specs.Prelude.{◌≡◌};
 ghost use Rattle.std.proofs.Props.{props};
-ghost use Rattle.order_text.specs.Digits.{digit_of};
-ghost use Rattle.order_run.specs.Table.{Table, byte_in};
+ghost use Rattle.order_text.specs.Digits.{digit_of, byte_in};
+ghost use Rattle.order_run.specs.Table.{Table};
 
 #[derive(Drop)]
 pub(crate) struct DigitTable {

@@ -2,8 +2,7 @@
 use mathlib.Core.Path.{sym, ap, ◌∙◌}
 use native.Mathlib.Omega.{arith}
 use Rattle.std.specs.Prelude.{Some}
-use Rattle.order_text.proofs.Digits.{byte_high, byte_low, byte_digits}
-use Rattle.order_run.proofs.Parts.{no_byte, one_byte}
+use Rattle.order_text.proofs.Digits.{byte_high, byte_low, byte_digits, no_byte, one_byte}
 use Rattle.order_run.proofs.table.DigitTable.byte.Goals as goal
 use Rattle.order_run.proofs.table.DigitTable.byte.Goals.{then-high-gt15-via-then-high-gt15, then-high-gt15-via-else-high-gt15+then-low-gt15}
 
