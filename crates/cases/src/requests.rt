@@ -1,9 +1,22 @@
 // The writers: the number, the first sixteen bytes behind the buffer's start, its last byte and the byte behind it.
-use crate::{Kind, fill, head};
+ghost use Rattle.std.specs.Prelude.{◌≤◌};
+
+use crate::{Service, fill};
 use mailbox::sub_index::SubIndex;
 use services::Request;
 use std::io;
 use wire::refusal::Refusal;
+
+// How many bytes of a case stand in front of a download's data: the last two are the frame's size.
+fn head(service: Service) -> usize
+    ensures { (5 ≤ result) × (result ≤ 8) }
+{
+    match service {
+        Service::Upload | Service::Download => 8,
+        Service::Segment => 5,
+        Service::List => 6,
+    }
+}
 
 fn written(
     rt: &impl Print,
@@ -19,16 +32,16 @@ fn written(
     print!(rt; " {last:02x} {:02x}", wire::byte(buffer, size))
 }
 
-fn wrote(kind: Kind, case: &[u8], data: &[u8], frame: &mut [u8]) -> Result<(), Refusal> {
-    match kind {
-        Kind::UploadFrame => services::checked::upload_frame(
+fn wrote(service: Service, case: &[u8], data: &[u8], frame: &mut [u8]) -> Result<(), Refusal> {
+    match service {
+        Service::Upload => services::checked::upload_frame(
             wire::byte(case, 1),
             wire::word_at(case, 2),
             wire::byte(case, 4),
             wire::byte(case, 5),
             frame,
         ),
-        Kind::DownloadFrame => services::checked::download_frame(
+        Service::Download => services::checked::download_frame(
             wire::byte(case, 1),
             wire::word_at(case, 2),
             wire::byte(case, 4),
@@ -36,19 +49,28 @@ fn wrote(kind: Kind, case: &[u8], data: &[u8], frame: &mut [u8]) -> Result<(), R
             data,
             frame,
         ),
-        Kind::SegmentFrame => {
+        Service::Segment => {
             services::checked::segment_frame(wire::byte(case, 1), wire::byte(case, 2), frame)
         }
-        _ => services::checked::list_frame(wire::byte(case, 1), wire::word_at(case, 2), frame),
+        Service::List => services::checked::list_frame(
+            wire::byte(case, 1),
+            wire::word_at(case, 2),
+            frame,
+        ),
     }
 }
 
-pub(crate) fn frame(rt: &impl Print, kind: Kind, case: &[u8], buffer: &mut [u8]) -> io::Result<()> {
-    let head = head(kind);
+pub(crate) fn frame(
+    rt: &impl Print,
+    service: Service,
+    case: &[u8],
+    buffer: &mut [u8],
+) -> io::Result<()> {
+    let head = head(service);
     let size = wire::word_at(case, head - 2) as usize;
     if head <= case.len() && size <= buffer.len() {
         fill(buffer);
-        let wrote = wrote(kind, case, &case[head..], &mut buffer[..size]);
+        let wrote = wrote(service, case, &case[head..], &mut buffer[..size]);
         written(rt, wrote, size, buffer)?;
     }
     Ok(())
@@ -61,6 +83,7 @@ fn access(case: &[u8]) -> SubIndex {
     SubIndex::Index(wire::byte(case, 4))
 }
 
+// The stored lines have these numbers: this match makes an enum of them.
 fn request(case: &[u8]) -> Request {
     let index = wire::word_at(case, 2);
     match wire::byte(case, 1) {

@@ -15,7 +15,7 @@ fn valued(rt: &impl Print, read: Result<u64, Refusal>, width: usize) -> io::Resu
     print!(rt; "{number:02x} {value:0width$x}")
 }
 
-// A signed value is printed as its 32 bits.
+// A signed value is printed as its 32 bits. The stored lines have these numbers, and an enum of types would only repeat the arms.
 fn bits(payload: &[u8], kind: u8) -> Result<u32, Refusal> {
     match kind {
         0x01 => read::<u8>(payload).map(u32::from),

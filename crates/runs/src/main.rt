@@ -4,110 +4,75 @@
 
 mod calls;
 
-ghost use Rattle.std.specs.Prelude.{◌≡◌, length};
-
 use calls::Standing;
+use show::Program;
 use std::io;
 use std::io::Read;
 
-const PIECE: u64 = 65536;
-
-// The host's memory, of which every lent buffer is a part: one of N = 131,071, and frame buffers behind it.
-fn memory_space() -> [u8; 135168]
-    ensures { 135168 ≡ length result }
-{
-    [0; 135168]
+// What a line calls: of the desk, or of the host's memory.
+enum Call {
+    Nothing,
+    Fresh,
+    Enter,
+    Send,
+    Receive,
+    Leave,
+    Lay,
+    Look,
 }
 
-fn call_space() -> [u8; 2048]
-    ensures { 2048 ≡ length result }
-{
-    [0; 2048]
-}
+struct NoSuchCall;
 
-// The numbers stay numbers: they are read here alone, and an enum would only say each of them a second time.
-fn called(
-    rt: &impl Print,
-    before: Standing,
-    call: &[u8],
-    memory: &mut [u8],
-) -> io::Result<Standing> {
-    match wire::byte(call, 0) {
-        0x01 => calls::fresh(rt, call),
-        0x02 => calls::enter(rt, before, call),
-        0x03 => calls::send(rt, before, call, memory),
-        0x04 => calls::receive(rt, before, call, memory),
-        0x05 => calls::leave(rt, before, call),
-        0x06 => {
-            calls::lay(rt, call, memory)?;
-            Ok(before)
-        }
-        0x07 => {
-            calls::look(rt, memory)?;
-            Ok(before)
-        }
-        0x00 => Ok(before),
-        _ => {
-            print!(rt; "no such call")?;
-            Ok(before)
+impl TryFrom<u8> for Call {
+    type Error = NoSuchCall;
+
+    fn try_from(number: u8) -> Result<Call, NoSuchCall> {
+        match number {
+            0x00 => Ok(Call::Nothing),
+            0x01 => Ok(Call::Fresh),
+            0x02 => Ok(Call::Enter),
+            0x03 => Ok(Call::Send),
+            0x04 => Ok(Call::Receive),
+            0x05 => Ok(Call::Leave),
+            0x06 => Ok(Call::Lay),
+            0x07 => Ok(Call::Look),
+            _ => Err(NoSuchCall),
         }
     }
 }
 
-fn run_line(
-    rt: &impl Print,
-    before: Standing,
-    line: &[u8],
-    space: &mut [u8],
-    memory: &mut [u8],
-) -> io::Result<Standing> {
-    if line.is_empty() || line[0] == b'#' {
-        return Ok(before);
-    }
-    if let Some(n) = order_text::decode(line, space) {
-        let after = called(rt, before, &space[..n], memory)?;
-        println!(rt)?;
-        Ok(after)
-    } else {
-        println!(rt; "no such line")?;
-        Ok(before)
-    }
+// The desk, and the host's memory, of which every lent buffer is a part: one of N = 131,071, and frame buffers behind it.
+#[derive(Drop)]
+struct Runs {
+    standing: Standing,
+    memory: [u8; 135168],
 }
 
-fn run(
-    rt: &impl Print,
-    first: Standing,
-    text: &[u8],
-    space: &mut [u8],
-    memory: &mut [u8],
-) -> io::Result<Standing> {
-    let mut standing = first;
-    for line in text.split(|&c| c == b'\n') {
-        standing = run_line(rt, standing, line, space, memory)?;
+impl Program for Runs {
+    fn turn(&mut self, rt: &impl Print, call: &[u8]) -> io::Result<()> {
+        let before = self.standing;
+        let memory = &mut self.memory;
+        self.standing = match Call::try_from(wire::byte(call, 0)) {
+            Ok(Call::Fresh) => calls::fresh(rt, call)?,
+            Ok(Call::Enter) => calls::enter(rt, before, call)?,
+            Ok(Call::Send) => calls::send(rt, before, call, memory)?,
+            Ok(Call::Receive) => calls::receive(rt, before, call, memory)?,
+            Ok(Call::Leave) => calls::leave(rt, before, call)?,
+            Ok(Call::Lay) => return calls::lay(rt, call, memory),
+            Ok(Call::Look) => return calls::look(rt, memory),
+            Ok(Call::Nothing) => return Ok(()),
+            Err(NoSuchCall) => return print!(rt; "no such call"),
+        };
+        Ok(())
     }
-    Ok(standing)
-}
-
-// The input comes in pieces of whole lines, at most 64 of them.
-fn run_pieces(
-    rt: &impl Print,
-    input: &mut impl Read,
-    text: &mut Vec<u8>,
-    space: &mut [u8],
-    memory: &mut [u8],
-) -> io::Result<()> {
-    let mut standing = calls::first();
-    for _ in 0..64 {
-        text.clear();
-        input.by_ref().take(PIECE).read_to_end(text)?;
-        standing = run(rt, standing, text, space, memory)?;
-    }
-    Ok(())
 }
 
 fn main(rt: HostRuntime) -> io::Result<()> {
     let mut text = Vec::new(rt.alloc());
-    let mut space = call_space();
-    let mut memory = memory_space();
-    run_pieces(&rt, &mut rt.stdin(), &mut text, &mut space, &mut memory)
+    rt.stdin().read_to_end(&mut text)?;
+    let runs = Runs {
+        standing: calls::first(),
+        memory: [0; 135168],
+    };
+    show::replay(&rt, &text, runs)
 }

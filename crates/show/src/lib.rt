@@ -1,4 +1,4 @@
-// What the programs that replay stored lines print: an answer, bytes, and a check of bytes that are too many to print.
+// How programs replay stored lines, and what they print: an answer, bytes, and a check of bytes that are too many to print.
 #![tactic(auto)]
 
 ghost use Rattle.std.specs.Prelude.{◌≡◌};
@@ -47,4 +47,36 @@ pub fn looked(rt: &impl Print, s: &[u8], most: usize, width: usize) -> io::Resul
     print!(rt; " ")?;
     first(rt, s, most)?;
     print!(rt; " {:0width$x}", check(s))
+}
+
+// A program that replays stored lines: what it does, and prints, for the bytes that a line says.
+pub trait Program {
+    fn turn(&mut self, rt: &impl Print, said: &[u8]) -> io::Result<()>;
+}
+
+// An empty line and a note are passed over.
+fn line(
+    rt: &impl Print,
+    line: &[u8],
+    space: &mut [u8],
+    program: &mut impl Program,
+) -> io::Result<()> {
+    if line.is_empty() || line[0] == b'#' {
+        return Ok(());
+    }
+    if let Some(n) = order_text::decode(line, space) {
+        program.turn(rt, &space[..n])?;
+        println!(rt)
+    } else {
+        println!(rt; "no such line")
+    }
+}
+
+// A trait and not a closure: a `for` over `split` gets no proof in a function with a closure that is lent what a line says.
+pub fn replay(rt: &impl Print, text: &[u8], mut program: impl Program + Drop) -> io::Result<()> {
+    let mut space = [0u8; 2048];
+    for said in text.split(|&c| c == b'\n') {
+        line(rt, said, &mut space, &mut program)?;
+    }
+    Ok(())
 }
