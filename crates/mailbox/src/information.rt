@@ -20,11 +20,12 @@ impl SdoInfoHeader {
         ensures { result ≡ sdo_info_bytes self }
     {
         let op_code = self.op_code;
+        let [left_low, left_high] = self.fragments_left.to_le_bytes();
         [
             u8::from(op_code) % 128 + 128 * u8::from(self.incomplete),
             0,
-            (self.fragments_left % 256) as u8,
-            (self.fragments_left / 256 % 256) as u8,
+            left_low,
+            left_high,
         ]
     }
 }

@@ -24,14 +24,15 @@ impl SdoHeader {
         ensures { result ≡ sdo_header_bytes self }
     {
         let command = self.command;
+        let [index_low, index_high] = self.index.to_le_bytes();
         [
             u8::from(self.size_indicator)
                 + 2 * u8::from(self.expedited_transfer)
                 + 4 * (self.size % 4)
                 + 16 * u8::from(self.complete_access)
                 + 32 * (u8::from(command) % 8),
-            (self.index % 256) as u8,
-            (self.index / 256 % 256) as u8,
+            index_low,
+            index_high,
             self.sub_index,
         ]
     }
