@@ -1,6 +1,7 @@
 // The SDO information header: the Rust's SdoInfoHeader of coe/headers.rs.
-ghost use Rattle.std.specs.Prelude.{◌≡◌};
-ghost use Rattle.mailbox.specs.Headers.{sdo_info_bytes, read_sdo_info};
+ghost use Rattle.std.specs.Prelude.{◌<◌};
+ghost use Rattle.mailbox.specs.Back.{info_back};
+ghost use Rattle.mailbox.specs.Headers.{sdo_info_rows, sdo_info_bytes, read_sdo_info};
 
 use crate::Header;
 use crate::numbers::SdoInfoOpCode;
@@ -13,12 +14,22 @@ pub struct SdoInfoHeader {
     pub fragments_left: u16,
 }
 
-impl SdoInfoHeader {
+impl Header for SdoInfoHeader {
     // Bytes 8 to 11 of a frame.
+    type Bytes = [u8; 4];
+
+    ghost rows = { sdo_info_rows };
+
+    ghost fits = { λ h. h.fragments_left < 65536 };
+
+    ghost bytes = { sdo_info_bytes };
+
+    ghost read = { read_sdo_info };
+
+    ghost back = { info_back };
+
     #[tactic(auto, using(crate::proofs::Packing::packing))]
-    pub fn pack(self) -> [u8; 4]
-        ensures { result ≡ sdo_info_bytes self }
-    {
+    fn pack(self) -> [u8; 4] {
         let op_code = self.op_code;
         let [left_low, left_high] = self.fragments_left.to_le_bytes();
         [
@@ -28,10 +39,6 @@ impl SdoInfoHeader {
             left_high,
         ]
     }
-}
-
-impl Header for SdoInfoHeader {
-    ghost read = { read_sdo_info };
 
     #[tactic(auto, using(crate::proofs::Unpacking::unpacking), unfolding(crate::specs::Headers::read_sdo_info))]
     fn unpack(frame: &[u8]) -> Result<Self, Refusal> {

@@ -1,6 +1,7 @@
 // The SDO header: the Rust's SdoHeader of coe/headers.rs.
-ghost use Rattle.std.specs.Prelude.{◌≡◌};
-ghost use Rattle.mailbox.specs.Headers.{sdo_header_bytes, read_sdo_header};
+ghost use Rattle.std.specs.Prelude.{◌<◌};
+ghost use Rattle.mailbox.specs.Back.{sdo_back};
+ghost use Rattle.mailbox.specs.Headers.{sdo_rows, sdo_header_bytes, read_sdo_header};
 
 use crate::Header;
 use crate::numbers::CoeCommand;
@@ -17,12 +18,22 @@ pub struct SdoHeader {
     pub sub_index: u8,
 }
 
-impl SdoHeader {
+impl Header for SdoHeader {
     // Bytes 8 to 11 of a frame.
+    type Bytes = [u8; 4];
+
+    ghost rows = { sdo_rows };
+
+    ghost fits = { λ h. (h.size < 4) × (h.index < 65536) × (h.sub_index < 256) };
+
+    ghost bytes = { sdo_header_bytes };
+
+    ghost read = { read_sdo_header };
+
+    ghost back = { λ h t. sdo_back h t.0 t.1 t.2 };
+
     #[tactic(auto, using(crate::proofs::Packing::packing))]
-    pub fn pack(self) -> [u8; 4]
-        ensures { result ≡ sdo_header_bytes self }
-    {
+    fn pack(self) -> [u8; 4] {
         let command = self.command;
         let [index_low, index_high] = self.index.to_le_bytes();
         [
@@ -36,10 +47,6 @@ impl SdoHeader {
             self.sub_index,
         ]
     }
-}
-
-impl Header for SdoHeader {
-    ghost read = { read_sdo_header };
 
     #[tactic(auto, using(crate::proofs::Unpacking::unpacking), unfolding(crate::specs::Headers::read_sdo_header))]
     fn unpack(frame: &[u8]) -> Result<Self, Refusal> {

@@ -1,6 +1,7 @@
 // The header of a segment: the Rust's SdoHeaderSegmented of coe/headers.rs.
-ghost use Rattle.std.specs.Prelude.{◌≡◌};
-ghost use Rattle.mailbox.specs.Headers.{segmented_bytes, read_segmented};
+ghost use Rattle.std.specs.Prelude.{◌<◌};
+ghost use Rattle.mailbox.specs.Back.{segmented_back};
+ghost use Rattle.mailbox.specs.Headers.{segmented_rows, segmented_bytes, read_segmented};
 
 use crate::Header;
 use crate::numbers::CoeCommand;
@@ -14,12 +15,22 @@ pub struct SdoHeaderSegmented {
     pub command: CoeCommand,
 }
 
-impl SdoHeaderSegmented {
+impl Header for SdoHeaderSegmented {
     // Byte 8 of a frame.
+    type Bytes = [u8; 1];
+
+    ghost rows = { segmented_rows };
+
+    ghost fits = { λ h. h.segment_data_size < 8 };
+
+    ghost bytes = { segmented_bytes };
+
+    ghost read = { read_segmented };
+
+    ghost back = { segmented_back };
+
     #[tactic(auto, using(crate::proofs::Packing::packing))]
-    pub fn pack(self) -> [u8; 1]
-        ensures { result ≡ segmented_bytes self }
-    {
+    fn pack(self) -> [u8; 1] {
         let command = self.command;
         [
             u8::from(self.is_last_segment)
@@ -28,10 +39,6 @@ impl SdoHeaderSegmented {
                 + 32 * (u8::from(command) % 8),
         ]
     }
-}
-
-impl Header for SdoHeaderSegmented {
-    ghost read = { read_segmented };
 
     #[tactic(auto, using(crate::proofs::Unpacking::unpacking), unfolding(crate::specs::Headers::read_segmented))]
     fn unpack(frame: &[u8]) -> Result<Self, Refusal> {
