@@ -9,8 +9,7 @@ ghost use Rattle.order_text.specs.Digits.{digit_of, char_of, byte_of, byte_in};
 ghost use Rattle.order_text.specs.Lines.{has_bad, bytes_of, line_of, answer_of, left_in};
 ghost use Rattle.order_text.specs.Text.{hex_text, text_in};
 
-// The digit that a character is, and 16 for a character that is none: digit_of has that number, with which has_bad and order_run's `fails`
-// compare, and which order_run's table keeps in a byte.
+// The digit of a character, and 16 where it is none: has_bad and order_run's `fails` compare digit_of's number, which its table keeps.
 #[tactic(auto, using(wire::proofs::Tests::tests), unfolding(crate::specs::Digits::digit_of))]
 pub fn digit(c: u8) -> u8
     ensures { result ≡ digit_of c }
