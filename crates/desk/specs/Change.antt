@@ -26,7 +26,7 @@ moved (x ∷ l) zero zero = x ∷ l
 moved (x ∷ []) zero (suc i) = x ∷ []
 moved (x ∷ (y ∷ l)) zero (suc i) = y ∷ moved (y ∷ l) zero i
 
--- The record that a change makes of d. The one rule has one loop, `apply`, which cites the laws of `moved` (proofs/Moved).
+-- The record that a change makes of d. `Change::apply` makes it by one copy, which is `moved` (proofs/Moved).
 abbrev pub changed_by : Change → Desk → Desk
 changed_by c d = record {
   line = set (moved d.line c.first c.last) c.at c.slot;

@@ -27,10 +27,8 @@ impl Change {
         requires { Within self }
         ensures { (result ≡ self.answer) × (desk.new ≡ changed_by self desk.old) }
     {
-        for i in self.first..self.last {
-            let behind = desk.line[i + 1];
-            desk.line[i] = behind;
-        }
+        desk.line
+            .copy_within(self.first + 1..self.last + 1, self.first);
         desk.line[self.at] = self.slot;
         desk.waiting = self.waiting;
         desk.counter = self.counter;

@@ -1,22 +1,17 @@
--- `apply` meets its contract: a turn moves one slot more.
-use mathlib.Core.Path.{◌≡◌, ap}
-use mathlib.Core.List.{List}
-use Prim.Native.Nat.{suc, ◌<◌}
+-- `apply` meets its contract: the copy is `moved`.
+use mathlib.Core.Path.{◌≡◌, refl}
+use Prim.Native.Nat.{◌+◌, ◌-◌}
 use native.Mathlib.Omega.{arith}
-use native.Mathlib.Numerals.{add-one}
 use borrow.Author.Rules.{rules}
 use lib.ListN.{length}
-use Rattle.desk.specs.declared.record.Slot.{Slot}
-use Rattle.desk.proofs.Moved.{unread, moved_none, moved_more, length_of_structs}
-use Rattle.desk.proofs.Held.{held}
+use Rattle.desk.proofs.Moved.{moved_copy, length_of_structs}
 use Rattle.desk.proofs.change.Change.apply.Goals as goal
 
-pub loop-i-init : goal.loop-i-init
-loop-i-init c = rw moved_none
-
-pub loop-i-preserved : goal.loop-i-preserved
-loop-i-preserved c =
-    let d = c.args.desk.now in
-    let eight : length d.line ≡ 8 = search (rules, length_of_structs) in
-    let q : suc c.loop-i.i < length d.line = omega (arith, c.requires.ends) in
-    rw (c.loop-i.invariant, add-one) (ap (λ (l : List Slot). held l d.waiting d) (moved_more _ _ _ unread c.loop-i.auto.i q))
+pub returns : goal.returns
+returns c =
+    let l = c.args.desk.now.line in
+    let s = c.args.self in
+    let n = (s.last + 1) - (s.first + 1) in
+    let eight : length l ≡ 8 = search (rules, length_of_structs) in
+    let moves = moved_copy l s.first s.last n (omega arith) c.requires.ordered (omega (arith, c.requires.ends)) in
+    rw (c.copy_within.ensures.after, moves) (refl, refl)
