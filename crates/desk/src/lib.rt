@@ -44,11 +44,8 @@ impl Desk {
     pub fn fresh_at(counter: u8) -> Desk
         ensures { Fresh (counter_from counter) result }
     {
-        if counter < 1 {
-            return Desk::empty(FIRST_COUNTER);
-        }
-        if 7 < counter {
-            return Desk::empty(FIRST_COUNTER);
+        if !(1..=7).contains(&counter) {
+            return Desk::fresh();
         }
         Desk::empty(counter)
     }
