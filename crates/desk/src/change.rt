@@ -2,8 +2,8 @@
 ghost use Rattle.std.specs.Prelude.{◌≡◌, ◌<◌};
 ghost use Rattle.desk.specs.Change.{Within, changed_by, joins_by, heads_by, closes_at, moves_on};
 
-use crate::Desk;
 use crate::record::{Slot, blank};
+use crate::{Desk, REQUEST_DUE};
 use judge::Answer;
 use transfer::Transfer;
 
@@ -44,7 +44,7 @@ impl Desk {
     {
         let n = self.waiting;
         Change {
-            answer: judge::plain(0x01),
+            answer: judge::plain(REQUEST_DUE),
             first: 0,
             last: 0,
             at: n,

@@ -21,6 +21,13 @@ pub mod record;
 // "A fresh desk sends 1"
 pub const FIRST_COUNTER: u8 = 1;
 
+// Of "Numbers the desk gives back" those of calls that are not refused: "request due", "reply due", "left".
+pub(crate) const REQUEST_DUE: u8 = 0x01;
+
+pub(crate) const REPLY_DUE: u8 = 0x02;
+
+pub(crate) const LEFT: u8 = 0x03;
+
 // The line in the first `waiting` slots, by order of entry, and blanks behind it; the counter of the next frame. `Good` is no invariant of
 // this type but a clause of each call: C lends the record (linked::lending), and `coe_desk_fresh` takes one that holds anything.
 #[repr(C)]
@@ -109,7 +116,7 @@ impl Desk {
         let head = self.head(seat)?;
         let sent = head.send(self.counter, frame)?;
         Ok(self.heads(
-            judge::plain(0x02),
+            judge::plain(REPLY_DUE),
             seat,
             sent,
             line::following(self.counter),
@@ -137,7 +144,7 @@ impl Desk {
         let Some(at) = self.place(seat) else {
             return Err(Refusal::SeatEmpty);
         };
-        Ok(self.closes(judge::plain(0x03), at))
+        Ok(self.closes(judge::plain(LEFT), at))
     }
 
     // `called_by` where the record lies: a refusal leaves it as it is.
