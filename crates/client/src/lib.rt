@@ -10,7 +10,7 @@ use transfer::Order;
 
 // The answers in the order of the calls.
 #[repr(C)]
-#[derive(Clone, Copy)]
+#[derive(Clone, Copy, Debug, PartialEq, Eq)]
 pub struct Seen {
     pub entered: Answer,
     pub sent: Answer,

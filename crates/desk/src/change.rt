@@ -10,7 +10,7 @@ use transfer::Transfer;
 // The places from `first` up to `last` each take what stands behind them, then `slot` comes to the place `at`; the line's length and
 // the counter of the next frame afterwards; and what the call answers. `Within` is no ghost field: with it `change_of`, which builds the
 // change of any record, would carry a proof for each place, and its promise would no longer be one equality.
-#[derive(Clone, Copy)]
+#[derive(Clone, Copy, Debug, PartialEq, Eq)]
 pub struct Change {
     pub answer: Answer,
     pub first: usize,

@@ -31,7 +31,7 @@ pub(crate) const LEFT: u8 = 0x03;
 // The line in the first `waiting` slots, by order of entry, and blanks behind it; the counter of the next frame. `Good` is no invariant of
 // this type but a clause of each call: C lends the record (linked::lending), and `coe_desk_fresh` takes one that holds anything.
 #[repr(C)]
-#[derive(Clone, Copy)]
+#[derive(Clone, Copy, Debug, PartialEq, Eq)]
 pub struct Desk {
     pub line: [Slot; 8],
     pub waiting: usize,
@@ -40,7 +40,7 @@ pub struct Desk {
 
 // What a call gives back.
 #[repr(C)]
-#[derive(Clone, Copy)]
+#[derive(Clone, Copy, Debug, PartialEq, Eq)]
 pub struct Called {
     pub answer: Answer,
     pub desk: Desk,

@@ -11,7 +11,7 @@ use wire::refusal::Refusal;
 
 // A seat and its transfer.
 #[repr(C)]
-#[derive(Clone, Copy)]
+#[derive(Clone, Copy, Debug, PartialEq, Eq)]
 pub struct Slot {
     pub seat: u8,
     pub transfer: Transfer,

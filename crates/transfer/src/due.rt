@@ -16,7 +16,7 @@ pub enum Reply {
     Fragment { begun: bool },
 }
 
-#[derive(Clone, Copy)]
+#[derive(Clone, Copy, Debug, PartialEq, Eq)]
 pub enum Due {
     Request(Request),
     Reply(Reply),
