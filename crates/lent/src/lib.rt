@@ -33,6 +33,7 @@ fn entering(
     desk.entering(seat, order)
 }
 
+// An order's kind, index, sub-index, data and budget stay apart, as `coe_desk_enter_within` of the header has them and linked hands them on.
 pub fn enter(
     desk: &mut Desk,
     seat: u8,
