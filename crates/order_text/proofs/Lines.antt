@@ -1,14 +1,13 @@
 -- Laws of lines that the loops over one go by: what is left of a line, and the byte at a place. Assumes nothing.
 use Prim.Native.Nat.{ℕ, zero, suc, ◌+◌, ◌*◌, ◌/◌, ◌<◌, ◌≤◌}
-use mathlib.Core.Path.{◌≡◌, refl, ap, ◌∙◌}
+use mathlib.Core.Path.{◌≡◌, refl, ◌∙◌}
 use mathlib.Core.Bool.{Bool, true, false, ◌||◌}
-use mathlib.Core.List.{List, [], ◌∷◌, ◌++◌}
+use mathlib.Core.List.{List, [], ◌∷◌}
 use native.Mathlib.Numerals.{add-one}
 use native.Mathlib.Omega.{arith}
 use lib.Dec.{ltb}
-use lib.ListN.{length, get_or, set, take, drop, length-take, drop_of_length-le}
+use lib.ListN.{length, get_or, set}
 use lib.Seq.{paste}
-use Rattle.std.proofs.Common.{append-nil}
 use borrow.Author.Tests.{ltb-false}
 use Rattle.std.specs.Prelude.{Option, Some}
 use Rattle.std.specs.List.{list_any}
@@ -88,11 +87,3 @@ pub byte_turn : (f s : List ℕ) (at k j : ℕ) → j ≡ at + k → j < length 
     → set (paste f at (bytes_of s) k) j (byte_of (get_or s (2 * k) 0) (get_or s (2 * k + 1) 0)) ≡ paste f at (bytes_of s) (k + 1)
 byte_turn f s at k j e h l =
     rw (← byte_at s k l) (paste_turn f at (bytes_of s) k j e h (rw (length-bytes s) (omega arith)))
-
--- bytes laid over the whole of a buffer's front part are laid over the buffer
-pub paste_front : (f s : List ℕ) (k : ℕ) → k ≤ length f → k ≤ length s → paste (take k f) 0 s k ++ drop k f ≡ paste f 0 s k
-paste_front f s k h l =
-    let none : drop (0 + k) (take k f) ≡ [] = drop_of_length-le (take k f) (simp length-take (omega arith)) in
-    let at : k ≡ 0 + k = omega arith in
-    ap (λ (x : List ℕ). take k s ++ x ++ drop k f) none ∙ ap (λ (x : List ℕ). x ++ drop k f) (append-nil (take k s))
-    ∙ ap (λ (j : ℕ). take k s ++ drop j f) at

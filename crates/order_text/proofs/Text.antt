@@ -2,13 +2,10 @@
 -- Assumes nothing.
 use Prim.Native.Nat.{ℕ, zero, suc, ◌+◌, ◌-◌, ◌*◌, ◌/◌, ◌%◌, ◌<◌, min, ◌≤◌}
 use mathlib.Core.Path.{◌≡◌, refl, sym, ap, ◌∙◌}
-use mathlib.Core.List.{List, [], ◌∷◌, ◌++◌, append_assoc}
+use mathlib.Core.List.{List, [], ◌∷◌}
 use native.Mathlib.Omega.{arith}
-use lib.ListN.{length, get_or, set, length-take, length-drop, take, drop, drop_of_length-le}
-use Rattle.std.proofs.lemmas.List.{take_rest}
-use lib.Seq.{paste, paste-zero, take-nil, drop-drop}
-use Rattle.std.proofs.Common.{append-nil}
-use borrow.Rule.Slice.PartMut.{put_mid}
+use lib.ListN.{length, get_or, set, length-take, take}
+use lib.Seq.{paste, paste-zero, take-nil}
 use Rattle.wire.specs.Store.{laid}
 use Rattle.wire.proofs.Store.{paste_turn, paste_part}
 use Rattle.order_text.specs.Digits.{char_of}
@@ -79,33 +76,8 @@ pub text_fits : (n : ℕ) (s : List ℕ) → length (text_in n s) ≤ n
 unfolding text_in
 text_fits n s = simp (length-text, length-take) (omega arith)
 
--- what is laid over the part of a buffer from a place on is laid over the buffer from there
-laid_behind : (o t : List ℕ) (at : ℕ) → at ≤ length o → put_mid at (length o - at) o (laid (drop at o) 0 t) ≡ laid o at t
-laid_behind o t at h =
-    let n : ℕ = length o - at in
-    let m : ℕ = min (length t) n in
-    let room : min (length t) (length (drop at o) - 0) ≡ m = simp length-drop (omega arith) in
-    let mid : drop (0 + m) (drop at o) ≡ drop (at + m) o = drop-drop (0 + m) at o ∙ ap (λ (j : ℕ). drop j o) (omega arith) in
-    let none : drop n (drop at o) ≡ [] = drop_of_length-le (drop at o) (simp length-drop (omega arith)) in
-    let front : laid (drop at o) 0 t ≡ take m t ++ drop (at + m) o =
-    ap (paste (drop at o) 0 t) room ∙ ap (λ (x : List ℕ). take m t ++ x) mid in
-    ap (λ (x : List ℕ). take at o ++ (x ++ drop n (drop at o))) front
-    ∙ ap (λ (x : List ℕ). take at o ++ (take m t ++ drop (at + m) o ++ x)) none
-    ∙ ap (λ (x : List ℕ). take at o ++ x) (append-nil (take m t ++ drop (at + m) o))
-    ∙ sym (append_assoc (take at o) (take m t) (drop (at + m) o))
-
 module _ (o s : List ℕ) (at : ℕ) where
-  -- what `encode_at` answers and leaves, by what `encode` does to the part from the place on, and where there is no such part
-  pub text_behind : (p o' : List ℕ) (r : ℕ) → p ≡ take (length o - at) (drop at o) → at ≤ length o
-      → r ≡ length (text_in (length p) s) → o' ≡ laid p 0 (text_in (length p) s)
-      → (at + r ≡ at + length (text_in (length o - at) s)) × (put_mid at (length o - at) o o' ≡ laid o at (text_in (length o - at) s))
-  text_behind p o' r e h a w =
-      let part : p ≡ drop at o = e ∙ take_rest o at in
-      let n : length p ≡ length o - at = rw part (length-drop at o) in
-      let t : List ℕ = text_in (length o - at) s in
-      let laid_part : o' ≡ laid (drop at o) 0 t = w ∙ ap (λ (k : ℕ). laid p 0 (text_in k s)) n ∙ ap (λ (x : List ℕ). laid x 0 t) part in
-      (rw (a, n), ap (put_mid at (length o - at) o) laid_part ∙ laid_behind o t at h)
-
+  -- what `encode_at` answers and leaves where the buffer has no part from the place on
   pub text_past : length o < at
       → (at ≡ at + length (text_in (length o - at) s)) × (o ≡ laid o at (text_in (length o - at) s))
   text_past h =
