@@ -57,6 +57,7 @@ impl Desk {
         Desk::empty(counter)
     }
 
+    #[tactic(auto, using(crate::proofs::Kept::fresh_is))]
     pub fn fresh() -> Desk
         ensures { Fresh first_counter result }
     {

@@ -40,6 +40,7 @@ pub(crate) fn blank() -> Slot
 }
 
 impl Desk {
+    #[tactic(auto, unfolding(crate::specs::Record::desk_of))]
     pub(crate) fn empty(counter: u8) -> Desk
         ensures { result ≡ empty_at counter }
     {
