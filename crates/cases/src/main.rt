@@ -9,7 +9,6 @@ mod values;
 
 use show::Program;
 use std::io;
-use std::io::Read;
 
 const FILL: u8 = 0xa5;
 
@@ -89,9 +88,8 @@ impl Program for Cases {
 
 fn main(rt: HostRuntime) -> io::Result<()> {
     let mut text = Vec::new(rt.alloc());
-    rt.stdin().read_to_end(&mut text)?;
-    let cases = Cases {
+    let mut cases = Cases {
         buffer: [0; 131072],
     };
-    show::replay(&rt, &text, cases)
+    show::replay(&rt, &mut rt.stdin(), &mut text, &mut cases)
 }

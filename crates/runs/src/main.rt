@@ -7,7 +7,6 @@ mod calls;
 use calls::Standing;
 use show::Program;
 use std::io;
-use std::io::Read;
 
 // What a line calls: of the desk, or of the host's memory.
 enum Call {
@@ -69,10 +68,9 @@ impl Program for Runs {
 
 fn main(rt: HostRuntime) -> io::Result<()> {
     let mut text = Vec::new(rt.alloc());
-    rt.stdin().read_to_end(&mut text)?;
-    let runs = Runs {
+    let mut runs = Runs {
         standing: calls::first(),
         memory: [0; 135168],
     };
-    show::replay(&rt, &text, runs)
+    show::replay(&rt, &mut rt.stdin(), &mut text, &mut runs)
 }

@@ -6,6 +6,9 @@ ghost use Rattle.show.specs.Check.{check_of};
 
 use judge::Answer;
 use std::io;
+use std::io::Read;
+
+const PIECE: u64 = 65536;
 
 pub fn answer(rt: &impl Print, answer: Answer) -> io::Result<()> {
     let Answer {
@@ -73,10 +76,30 @@ fn line(
 }
 
 // A trait and not a closure: a `for` over `split` gets no proof in a function with a closure that is lent what a line says.
-pub fn replay(rt: &impl Print, text: &[u8], mut program: impl Program + Drop) -> io::Result<()> {
-    let mut space = [0u8; 2048];
+fn lines(
+    rt: &impl Print,
+    text: &[u8],
+    space: &mut [u8],
+    program: &mut impl Program,
+) -> io::Result<()> {
     for said in text.split(|&c| c == b'\n') {
-        line(rt, said, &mut space, &mut program)?;
+        line(rt, said, space, program)?;
+    }
+    Ok(())
+}
+
+// The input comes in pieces of whole lines, at most 64 of them.
+pub fn replay(
+    rt: &impl Print,
+    input: &mut impl Read,
+    text: &mut Vec<u8>,
+    program: &mut impl Program,
+) -> io::Result<()> {
+    let mut space = [0u8; 2048];
+    for _ in 0..64 {
+        text.clear();
+        input.by_ref().take(PIECE).read_to_end(text)?;
+        lines(rt, text, &mut space, program)?;
     }
     Ok(())
 }
