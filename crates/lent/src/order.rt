@@ -4,12 +4,14 @@ ghost use Rattle.lent.specs.Order.{len_of, order_from};
 
 use transfer::Order;
 
+#[tactic(auto, unfolding(crate::specs::Order::len_of))]
 fn len_of(n: usize) -> u8
     ensures { result ≡ len_of n }
 {
     n.min(5) as u8
 }
 
+#[tactic(auto, unfolding(crate::specs::Order::order_from))]
 pub fn order_from(kind: u8, index: u16, sub: u8, bytes: &[u8], budget: u16) -> Order
     ensures { result ≡ order_from kind index sub bytes.now budget }
 {
