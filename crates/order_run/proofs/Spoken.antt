@@ -135,6 +135,9 @@ module _ {x r : Called} (e : r ≡ x) where
   pub said_called : (k : List ℕ) → after_receive r k ≡ after_receive x k
   said_called k = ap (λ (y : Called). after_receive y k) e
 
+-- the laws by which an answer is printed
+pub ruleset answers = (turned_as, still_turned, number_0, number_1, number_2, number_last, good_called, said_called)
+
 -- ---- a reply that is still due, where one slot is all that changes: the record with that slot
 
 quiet_is : (c : Change) → quiet c ≡ true → (c.last ≤ c.first) × (c.answer.number ≡ 2)

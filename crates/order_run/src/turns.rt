@@ -44,6 +44,8 @@ pub struct Turn {
     pub end: usize,
 }
 
+// No struct holds the output and the place: Turned would name both fields, before and after, where it says now what is laid from `at` to `end`.
+#[tactic(auto, using(crate::proofs::Printing::line_room))]
 fn print_line(bytes: &[u8], out: &mut [u8], at: usize) -> usize
     requires { at + 2 * length bytes.now + 1 ≤ length out.old }
     ensures { (result ≡ at + length (line_text bytes.now)) × (out.new ≡ laid out.old at (line_text bytes.now)) }
@@ -84,6 +86,7 @@ fn request(desk: Desk, out: &mut [u8], at: usize) -> Turn
 }
 
 // "after 00, the stored payload"
+#[tactic(auto, using(crate::proofs::Spoken::done_room))]
 fn done(desk: Desk, payload: u32, data: &[u8], out: &mut [u8], at: usize) -> Turn
     requires good { Good desk }
     requires data_in_bounds { at + 2 * length «data».now + 3 ≤ length out.old }
@@ -139,6 +142,7 @@ pub(crate) fn is_quiet(change: Change) -> bool
     false
 }
 
+#[tactic(auto, using(crate::proofs::Spoken::answers))]
 pub(crate) fn print_answer(
     desk: Desk,
     decided: Result<Change, Refusal>,
@@ -172,6 +176,7 @@ pub(crate) fn print_answer(
 }
 
 // "Replies used up: it leaves, 03."
+#[tactic(auto, using(crate::proofs::Spoken::turned_as, crate::proofs::Spoken::all_none, crate::proofs::Spoken::all_left))]
 pub(crate) fn all_read(desk: Desk, phase: Phase, out: &mut [u8], at: usize) -> Turn
     requires good { Good desk }
     requires at_in_bounds { at + 3 ≤ length out.old }

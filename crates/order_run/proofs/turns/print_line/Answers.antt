@@ -1,15 +1,6 @@
--- `print_line` meets its contract: all bytes have room, and a line's end behind them.
-use native.Mathlib.Omega.{arith}
-use Rattle.order_run.proofs.Printing.{line_room, line_laid}
+-- `print_line` meets its contract: all bytes, and a line's end behind them.
+use Rattle.order_run.proofs.Printing.{line_laid}
 use Rattle.order_run.proofs.turns.print_line.Goals as goal
-
-pub bounds-out-end : goal.bounds-out-end
-bounds-out-end c =
-    search line_room
-
-pub overflow_add-result : goal.overflow_add-result
-overflow_add-result c =
-    omega (arith, bounds-out-end c)
 
 pub returns : goal.returns
 returns c =
