@@ -5,12 +5,13 @@ use mathlib.Core.Bool.{Bool, true, false}
 use mathlib.Core.List.{List}
 use Prim.Native.Nat.{ℕ}
 use lib.Dec.{eqb}
-use Rattle.std.specs.Prelude.{Result, Ok, Err, Option, Some, None}
+use Rattle.std.specs.Prelude.{Result, Ok, Err, Option, Some, None, IsErr, IsErrAnd}
 use Rattle.wire.specs.declared.refusal.Refusal.{Refusal}
 use Rattle.wire.specs.declared.refusal.Refusal.TheVariants.{Undecodable, WrongReply}
 use Rattle.mailbox.specs.Numbers.{command_number}
 use Rattle.mailbox.specs.declared.numbers.CoeCommand.{CoeCommand}
 use Rattle.mailbox.specs.declared.numbers.CoeCommand.TheVariants.{Abort}
+use Rattle.mailbox.proofs.Unpacking.{handed_on}
 use Rattle.judge.specs.Alarm.{emergency_in, abort_in}
 use Rattle.judge.specs.Reply.{on_headers, in_order}
 use Rattle.judge.specs.Headers.{on_front, on_header}
@@ -52,22 +53,22 @@ module _ {H : Type 0} (s : List ℕ) (r q : Result (Option (Headers H)) Refusal)
 pub ruleset order = (stopped, astray, heard, unheaded, alarmed, headed)
 
 -- what stands before byte 8, as a reading of headers comes to it
-module _ {A : Type 0} (r q : Result (Option Front) Refusal) (e : r ≡ q) (none emergency : A) (f : Front → A) where
-  pub unfronted : (refusal : Refusal) → r ≡ Err refusal → none ≡ on_front q none emergency f
-  unfronted refusal t = rw (← e, t)
+module _ {A : Type 0} (r q : Result (Option Front) Refusal) (e : r ≡ q) (v : Result (Option A) Refusal) (f : Front → Result (Option A) Refusal) where
+  pub unfronted : (refusal : Refusal) → r ≡ Err refusal → IsErr v × IsErrAnd v (λ g. g ≡ refusal) → v ≡ on_front q f
+  unfronted refusal t u = rw (← e, t) (handed_on v refusal u)
 
-  pub urgent : r ≡ Ok None → emergency ≡ on_front q none emergency f
-  urgent t = rw (← e, t)
+  pub urgent : r ≡ Ok None → v ≡ Ok None → v ≡ on_front q f
+  urgent t u = rw (← e, t, u)
 
-  pub fronted : (h : Front) (v : A) → r ≡ Ok (Some h) → v ≡ f h → v ≡ on_front q none emergency f
-  fronted h v t o = rw (← e, t, o)
+  pub fronted : (h : Front) → r ≡ Ok (Some h) → v ≡ f h → v ≡ on_front q f
+  fronted h t u = rw (← e, t, u)
 
--- and behind it the third header
-module _ {H A : Type 0} (none : A) (r q : Result H Refusal) (e : r ≡ q) (f : H → A) where
-  pub no_header : (refusal : Refusal) → r ≡ Err refusal → none ≡ on_header q none f
-  no_header refusal t = rw (← e, t)
+-- and each header
+module _ {H A : Type 0} (r q : Result H Refusal) (e : r ≡ q) (v : Result A Refusal) (f : H → Result A Refusal) where
+  pub no_header : (refusal : Refusal) → r ≡ Err refusal → IsErr v × IsErrAnd v (λ g. g ≡ refusal) → v ≡ on_header q f
+  no_header refusal t u = rw (← e, t) (handed_on v refusal u)
 
-  pub a_header : (h : H) (v : A) → r ≡ Ok h → v ≡ f h → v ≡ on_header q none f
-  a_header h v t o = rw (← e, t, o)
+  pub a_header : (h : H) → r ≡ Ok h → v ≡ f h → v ≡ on_header q f
+  a_header h t u = rw (← e, t, u)
 
 pub ruleset fronts = (unfronted, urgent, fronted, no_header, a_header, refl)

@@ -1,5 +1,4 @@
-// Rule 1: the headers of a reply, each kind's together; and rule 4, whether they are those of the transfer that was asked. No `?` passes a
-// header's refusal on: rule 1 says 20 of every header that is not read, and so do its definitions.
+// Rule 1: the headers of a reply, each kind's together; and rule 4, whether they are those of the transfer that was asked.
 ghost use Rattle.std.specs.Prelude.{◌≡◌};
 ghost use Rattle.judge.specs.Headers.{read_front, read_behind, read_information_headers, wrong_type, wrong_address};
 
@@ -26,20 +25,15 @@ pub struct Headers<H> {
 }
 
 // Of a reply that must have `least` bytes; None is an emergency, service 1, which no third header follows.
-#[tactic(auto, using(wire::proofs::Tests::tests, crate::proofs::Listed::service_1), unfolding(crate::specs::Headers::read_front))]
+#[tactic(auto, using(crate::proofs::InOrder::fronts, wire::proofs::Tests::tests, crate::proofs::Listed::service_1), unfolding(crate::specs::Headers::read_front))]
 fn read_front(s: &[u8], least: usize) -> Result<Option<Front>, Refusal>
     ensures { result ≡ read_front least s.now }
 {
     if s.len() < least {
         return Err(Refusal::Undecodable);
     }
-    let Ok(mailbox) = MailboxHeader::unpack(s) else {
-        return Err(Refusal::Undecodable);
-    };
-    let Ok(header) = CoeHeader::unpack(s) else {
-        return Err(Refusal::Undecodable);
-    };
-    let service = header.service;
+    let mailbox = MailboxHeader::unpack(s)?;
+    let service = CoeHeader::unpack(s)?.service;
     if service == CoeService::Emergency {
         return Ok(None);
     }
@@ -53,37 +47,25 @@ fn read_front(s: &[u8], least: usize) -> Result<Option<Front>, Refusal>
 pub(crate) fn read_behind<H: Header>(s: &[u8], least: usize) -> Result<Option<Headers<H>>, Refusal>
     ensures { result ≡ read_behind H.read least s.now }
 {
-    match read_front(s, least) {
-        Err(_) => Err(Refusal::Undecodable),
-        Ok(None) => Ok(None),
-        Ok(Some(front)) => {
-            let Ok(header) = H::unpack(s) else {
-                return Err(Refusal::Undecodable);
-            };
-            Ok(Some(Headers {
-                mailbox: front.mailbox,
-                service: front.service,
-                header,
-            }))
-        }
-    }
+    let Some(front) = read_front(s, least)? else {
+        return Ok(None);
+    };
+    let header = H::unpack(s)?;
+    Ok(Some(Headers {
+        mailbox: front.mailbox,
+        service: front.service,
+        header,
+    }))
 }
 
 // Of a reply to the request for a list, which has no rule for an emergency.
-#[tactic(auto, unfolding(crate::specs::Headers::read_information_headers))]
+#[tactic(auto, using(crate::proofs::InOrder::fronts), unfolding(crate::specs::Headers::read_information_headers))]
 pub(crate) fn read_information_headers(s: &[u8]) -> Result<Headers<SdoInfoHeader>, Refusal>
     ensures { result ≡ read_information_headers s.now }
 {
-    let Ok(mailbox) = MailboxHeader::unpack(s) else {
-        return Err(Refusal::Undecodable);
-    };
-    let Ok(coe) = CoeHeader::unpack(s) else {
-        return Err(Refusal::Undecodable);
-    };
-    let Ok(header) = SdoInfoHeader::unpack(s) else {
-        return Err(Refusal::Undecodable);
-    };
-    let service = coe.service;
+    let mailbox = MailboxHeader::unpack(s)?;
+    let service = CoeHeader::unpack(s)?.service;
+    let header = SdoInfoHeader::unpack(s)?;
     Ok(Headers {
         mailbox,
         service,

@@ -13,7 +13,7 @@ use Rattle.wire.specs.declared.refusal.Refusal.{Refusal}
 use Rattle.mailbox.proofs.Reading.{reading}
 
 -- what `?` hands on
-handed_on : {H : Type 0} (r : Result H Refusal) (e : Refusal) → IsErr r × IsErrAnd r (λ f. f ≡ e) → r ≡ Err e
+pub handed_on : {H : Type 0} (r : Result H Refusal) (e : Refusal) → IsErr r × IsErrAnd r (λ f. f ≡ e) → r ≡ Err e
 handed_on (Err f) e p = ap Err p.1
 handed_on (Ok h) e p = absurd (false≢true p.0)
 

@@ -29,6 +29,7 @@ use Rattle.mailbox.specs.declared.numbers.CoeCommand.{CoeCommand}
 use Rattle.mailbox.specs.declared.numbers.SdoInfoOpCode.{SdoInfoOpCode}
 use Rattle.judge.specs.Answers.{answer_of, one_of}
 use Rattle.judge.specs.Headers.{on_header, on_front, read_front, read_headers, read_segment_headers, read_information_headers}
+use Rattle.judge.specs.Reply.{on_headers}
 use Rattle.judge.specs.Alarm.{message_in, emergency_in}
 use Rattle.judge.specs.declared.headers.Headers.{Headers}
 use Rattle.judge.specs.declared.Verdict.{Verdict}
@@ -37,7 +38,7 @@ use Rattle.judge.specs.declared.headers.Front.{Front}
 use Rattle.promises.specs.Finding.{Finding, refuse, emergency}
 use Rattle.promises.specs.Names.{numbers, types, services, specifiers, operations}
 use Rattle.promises.specs.Rules.{under, at, unlisted}
-use Rattle.promises.proofs.Lines.{Look, look, Tells, line, listed}
+use Rattle.promises.proofs.Lines.{Look, missing, present, look, Tells, line, listed}
 
 -- ---- the listed numbers
 
@@ -67,34 +68,43 @@ front_of m c = record { mailbox = m; service = c.service }
 
 abbrev pub header_in : {H : Type 0} → Front → Result H Refusal → Result (rust.Option (Headers H)) Refusal
 header_in h r =
-    on_header r (Err Undecodable) λ d. Ok (rust.Some (record { mailbox = h.mailbox; service = h.service; header = d }))
+    on_header r λ d. Ok (rust.Some (record { mailbox = h.mailbox; service = h.service; header = d }))
 
 abbrev pub information_in : MailboxHeader → CoeHeader → Result SdoInfoHeader Refusal → Result (Headers SdoInfoHeader) Refusal
 information_in m c r =
-    on_header r (Err Undecodable) λ i. Ok (record { mailbox = m; service = c.service; header = i })
+    on_header r λ i. Ok (record { mailbox = m; service = c.service; header = i })
 
-nothing_made : {H : Type 0} (none : H) (a : Result MailboxHeader Refusal) (b : Result CoeHeader Refusal) (make : MailboxHeader → CoeHeader → H)
-    → ((m : MailboxHeader) (c : CoeHeader) → make m c ≡ none)
-    → on_header a none (λ m. on_header b none (make m)) ≡ none
-nothing_made none (Err r) b make e = refl
-nothing_made none (Ok m) (Err r) make e = refl
-nothing_made none (Ok m) (Ok c) make e = e m c
+-- a header that is not read is 20
+data Reading {H : Type 0} : Result H Refusal → Type 0 where
+  unread : Reading (Err Undecodable)
+  was_read : (h : H) → Reading (Ok h)
+
+reading : {A H : Type 0} {number : A → ℕ} {n : ℕ} {q : Result A Refusal} {among : Bool} → Look number Ok (Err Undecodable) n q among
+    → (make : A → H) (short : Bool) → Reading (pick short (Err Undecodable) (map_ok make q))
+reading l make true = unread
+reading (missing e m) make false = rw e unread
+reading (present a k e m) make false = rw e (was_read (make a))
+
+nothing_made : {H : Type 0} {a : Result MailboxHeader Refusal} {b : Result CoeHeader Refusal} → Reading a → Reading b
+    → (make : MailboxHeader → CoeHeader → Result H Refusal) → ((m : MailboxHeader) (c : CoeHeader) → make m c ≡ Err Undecodable)
+    → on_header a (λ m. on_header b (make m)) ≡ Err Undecodable
+nothing_made unread q make e = refl
+nothing_made (was_read m) unread make e = refl
+nothing_made (was_read m) (was_read c) make e = e m c
 
 -- service 1, or what the other services are
-abbrev pub unless_one : {H : Type 0} → H → CoeHeader → H → H
-unless_one alarmed c other = pick (eqb (names.service_number c.service) 1) alarmed other
+abbrev pub unless_one : {H : Type 0} → CoeHeader → Result (rust.Option H) Refusal → Result (rust.Option H) Refusal
+unless_one c other = pick (eqb (names.service_number c.service) 1) (Ok rust.None) other
 
 -- what is done with the front is done behind its two headers
-module _ {H : Type 0} (none alarmed : H) (f : Front → H) where
-  picked : (b : Bool) (h : Front) → on_front (pick b (Ok rust.None) (Ok (rust.Some h))) none alarmed f ≡ pick b alarmed (f h)
+module _ {H : Type 0} (f : Front → Result (rust.Option H) Refusal) where
+  picked : (b : Bool) (h : Front) → on_front (pick b (Ok rust.None) (Ok (rust.Some h))) f ≡ pick b (Ok rust.None) (f h)
   picked true h = refl
   picked false h = refl
 
   behind_front : (a : Result MailboxHeader Refusal) (b : Result CoeHeader Refusal)
-      → on_front
-      (on_header a (Err Undecodable) λ m. on_header b (Err Undecodable) λ c. unless_one (Ok rust.None) c (Ok (rust.Some (front_of m c))))
-      none alarmed f
-      ≡ on_header a none λ m. on_header b none λ c. unless_one alarmed c (f (front_of m c))
+      → on_front (on_header a λ m. on_header b λ c. unless_one c (Ok (rust.Some (front_of m c)))) f
+      ≡ on_header a λ m. on_header b λ c. unless_one c (f (front_of m c))
   behind_front (Err r) b = refl
   behind_front (Ok m) (Err r) = refl
   behind_front (Ok m) (Ok c) = picked (eqb (names.service_number c.service) 1) (front_of m c)
@@ -113,72 +123,74 @@ module _ (s : List ℕ) where
       )
 
   -- what is made of the first two headers, by the type and the service that were looked up
-  abbrev pub in_turn : {H : Type 0} → H → (MailboxHeader → CoeHeader → H) → Result MailboxType Refusal → Result CoeService Refusal → H
-  in_turn none make a b = on_header (map_ok (mailbox_header_of s) a) none λ m. on_header (map_ok coe_header_of b) none (make m)
+  abbrev pub in_turn : {H : Type 0} → (MailboxHeader → CoeHeader → Result H Refusal) → Result MailboxType Refusal → Result CoeService Refusal
+      → Result H Refusal
+  in_turn make a b = on_header (map_ok (mailbox_header_of s) a) λ m. on_header (map_ok coe_header_of b) (make m)
 
-  abbrev pub in_reply : {H : Type 0} → H → (MailboxHeader → CoeHeader → H) → H
-  in_reply none make = in_turn none make (names.type_of (the mailbox_type s)) (names.service_of (the service s))
+  abbrev pub in_reply : {H : Type 0} → (MailboxHeader → CoeHeader → Result H Refusal) → Result H Refusal
+  in_reply make = in_turn make (names.type_of (the mailbox_type s)) (names.service_of (the service s))
 
   -- what is long enough for a rule is long enough for its headers
   longer : (least k : ℕ) → k ≤ least → under least s ≡ false → ltb (length s) k ≡ false
   longer least k h e = le-ltb (length s) k (omega (arith, ltb-false (length s) least e))
 
   -- a third header is not read under the rule's least length, and is q else
-  module _ {H Q : Type 0} (least : ℕ) (h : 8 ≤ least) (none : H) (unread q : Q) where
-    read_in_turn : (make : MailboxHeader → CoeHeader → Q → H) → ((m : MailboxHeader) (c : CoeHeader) → make m c unread ≡ none)
-        → on_header (read_mailbox_header s) none (λ m. on_header (read_coe_header s) none λ c. make m c (pick (under least s) unread q))
-        ≡ pick (under least s) none (in_reply none λ m c. make m c q)
+  module _ {H Q : Type 0} (least : ℕ) (h : 8 ≤ least) (none q : Q) where
+    read_in_turn : (make : MailboxHeader → CoeHeader → Q → Result H Refusal) → ((m : MailboxHeader) (c : CoeHeader) → make m c none ≡ Err Undecodable)
+        → on_header (read_mailbox_header s) (λ m. on_header (read_coe_header s) λ c. make m c (pick (under least s) none q))
+        ≡ pick (under least s) (Err Undecodable) (in_reply λ m c. make m c q)
     unfolding read_mailbox_header read_coe_header
     read_in_turn make e =
         by (under least s)
-        (λ y. rw y (nothing_made none (read_mailbox_header s) (read_coe_header s) (λ m c. make m c unread) e))
+        (λ y. rw y
+        (nothing_made (reading (type_look (the mailbox_type s)) (mailbox_header_of s) (ltb (length s) 6))
+        (reading (service_look (the service s)) coe_header_of (ltb (length s) 8)) (λ m c. make m c none) e))
         (λ n. rw (n, longer least 6 (omega (arith, h)) n, longer least 8 (omega (arith, h)) n))
 
-    read_behind_front : (alarmed : H) (make : Front → Q → H)
-        → on_front (read_front least s) none alarmed (λ f. make f (pick (under least s) unread q))
-        ≡ pick (under least s) none (in_reply none λ m c. unless_one alarmed c (make (front_of m c) q))
+    read_behind_front : (make : Front → Q → Result (rust.Option H) Refusal)
+        → on_front (read_front least s) (λ f. make f (pick (under least s) none q))
+        ≡ pick (under least s) (Err Undecodable) (in_reply λ m c. unless_one c (make (front_of m c) q))
     unfolding read_front read_mailbox_header read_coe_header
-    read_behind_front alarmed make =
+    read_behind_front make =
         by (under least s)
         (λ y. rw y)
         (λ n. rw (n, longer least 6 (omega (arith, h)) n, longer least 8 (omega (arith, h)) n)
-        (behind_front none alarmed (λ f. make f q) (map_ok (mailbox_header_of s) (names.type_of (the mailbox_type s))) (map_ok coe_header_of (names.service_of (the service s)))))
+        (behind_front (λ f. make f q) (map_ok (mailbox_header_of s) (names.type_of (the mailbox_type s))) (map_ok coe_header_of (names.service_of (the service s)))))
 
   pub sdo_read : read_headers s
       ≡ pick (under 12 s) (Err Undecodable)
-      (in_reply (Err Undecodable) λ m c.
-      unless_one (Ok rust.None) c (header_in (front_of m c) (map_ok (sdo_header_of s) (names.command_of (the specifier s)))))
+      (in_reply λ m c.
+      unless_one c (header_in (front_of m c) (map_ok (sdo_header_of s) (names.command_of (the specifier s)))))
   unfolding read_headers read_sdo_header
-  sdo_read = read_behind_front 12 (omega arith) (Err Undecodable) (Err Undecodable) _ (Ok rust.None) header_in
+  sdo_read = read_behind_front 12 (omega arith) (Err Undecodable) _ header_in
 
   pub segment_read : read_segment_headers s
       ≡ pick (under 9 s) (Err Undecodable)
-      (in_reply (Err Undecodable) λ m c.
-      unless_one (Ok rust.None) c (header_in (front_of m c) (map_ok (segmented_of s) (names.command_of (the specifier s)))))
+      (in_reply λ m c.
+      unless_one c (header_in (front_of m c) (map_ok (segmented_of s) (names.command_of (the specifier s)))))
   unfolding read_segment_headers read_segmented
-  segment_read =
-      read_behind_front 9 (omega arith) (Err Undecodable) (Err Undecodable) _ (Ok rust.None) header_in
+  segment_read = read_behind_front 9 (omega arith) (Err Undecodable) _ header_in
 
   pub information_read : read_information_headers s
       ≡ pick (under 12 s) (Err Undecodable)
-      (in_reply (Err Undecodable) λ m c. information_in m c (map_ok (sdo_info_of s) (names.operation_of (the operation s))))
+      (in_reply λ m c. information_in m c (map_ok (sdo_info_of s) (names.operation_of (the operation s))))
   unfolding read_information_headers read_sdo_info
-  information_read = read_in_turn 12 (omega arith) (Err Undecodable) (Err Undecodable) _ information_in (λ m c. refl)
+  information_read = read_in_turn 12 (omega arith) (Err Undecodable) _ information_in (λ m c. refl)
 
   -- "Under 12 bytes, or an unlisted type, service ..": of any least length, and whatever is made of the first two headers
-  module _ (least : ℕ) {H K : Type 0} (on : H → (K → Verdict) → Verdict) (f : K → Verdict) (none : H) (refused : on none f ≡ Refused Undecodable) where
-    abbrev judged : (MailboxHeader → CoeHeader → H) → Result MailboxType Refusal → Result CoeService Refusal → Verdict
-    judged make a b = on (in_turn none make a b) f
+  module _ (least : ℕ) {H K : Type 0} (on : Result H Refusal → (K → Verdict) → Verdict) (f : K → Verdict) (refused : on (Err Undecodable) f ≡ Refused Undecodable) where
+    abbrev judged : (MailboxHeader → CoeHeader → Result H Refusal) → Result MailboxType Refusal → Result CoeService Refusal → Verdict
+    judged make a b = on (in_turn make a b) f
 
-    on_pick : (b : Bool) (h : H) → on (pick b none h) f ≡ pick b (Refused Undecodable) (on h f)
+    on_pick : (b : Bool) (h : Result H Refusal) → on (pick b (Err Undecodable) h) f ≡ pick b (Refused Undecodable) (on h f)
     on_pick true h = refused
     on_pick false h = refl
 
-    decoded : (make : MailboxHeader → CoeHeader → H) {x : Option Finding}
+    decoded : (make : MailboxHeader → CoeHeader → Result H Refusal) {x : Option Finding}
         → ((t : MailboxType) (v : CoeService) → names.type_number t ≡ the mailbox_type s → names.service_number v ≡ the service s
         → Tells s (judged make (Ok t) (Ok v)) x)
         → Tells s
-        (on (pick (under least s) none (in_reply none make)) f)
+        (on (pick (under least s) (Err Undecodable) (in_reply make)) f)
         (pick (under least s) (some (refuse 0x20))
         (pick (unlisted types (the mailbox_type s)) (some (refuse 0x20))
         (pick (unlisted services (the service s)) (some (refuse 0x20)) x)))
@@ -191,8 +203,8 @@ module _ (s : List ℕ) where
         p t v et ev))
 
     -- a third header that is looked up in a list of its own
-    third : {A R : Type 0} {number : A → ℕ} {found : A → R} {missing q : R} {n : ℕ} {among : Bool} → Look number found missing n q among
-        → (make : MailboxHeader → CoeHeader → R → H) → ((m : MailboxHeader) (c : CoeHeader) → make m c missing ≡ none)
+    third : {A R : Type 0} {number : A → ℕ} {found : A → R} {none q : R} {n : ℕ} {among : Bool} → Look number found none n q among
+        → (make : MailboxHeader → CoeHeader → R → Result H Refusal) → ((m : MailboxHeader) (c : CoeHeader) → make m c none ≡ Err Undecodable)
         → (t : MailboxType) (v : CoeService) {x : Option Finding}
         → ((a : A) → number a ≡ n → Tells s (judged (λ m c. make m c (found a)) (Ok t) (Ok v)) x)
         → Tells s (judged (λ m c. make m c q) (Ok t) (Ok v)) (pick (not among) (some (refuse 0x20)) x)
@@ -200,13 +212,13 @@ module _ (s : List ℕ) where
         listed s l (λ r. judged (λ m c. make m c r) (Ok t) (Ok v)) (ap (λ h. on h f) (no_third _ _) ∙ refused) p
 
     -- ".. or operation"
-    pub information_decoded : (make : MailboxHeader → CoeHeader → Result SdoInfoOpCode Refusal → H)
-        → ((m : MailboxHeader) (c : CoeHeader) → make m c (Err Undecodable) ≡ none)
+    pub information_decoded : (make : MailboxHeader → CoeHeader → Result SdoInfoOpCode Refusal → Result H Refusal)
+        → ((m : MailboxHeader) (c : CoeHeader) → make m c (Err Undecodable) ≡ Err Undecodable)
         → {x : Option Finding}
         → ((t : MailboxType) (v : CoeService) (o : SdoInfoOpCode) → names.operation_number o ≡ the operation s
         → Tells s (judged (λ m c. make m c (Ok o)) (Ok t) (Ok v)) x)
         → Tells s
-        (on (pick (under least s) none (in_reply none λ m c. make m c (names.operation_of (the operation s)))) f)
+        (on (pick (under least s) (Err Undecodable) (in_reply λ m c. make m c (names.operation_of (the operation s)))) f)
         (pick (under least s) (some (refuse 0x20))
         (pick (unlisted types (the mailbox_type s)) (some (refuse 0x20))
         (pick (unlisted services (the service s)) (some (refuse 0x20))
@@ -215,14 +227,15 @@ module _ (s : List ℕ) where
         decoded (λ m c. make m c (names.operation_of (the operation s))) λ t v et ev.
         third (operation_look (the operation s)) make no_third t v (p t v)
 
-    -- ".. or specifier", unless the service is 1: then an emergency, and byte 8 is not judged
-    pub sdo_decoded : (alarmed : H) → on alarmed f ≡ emergency_in s
-        → (make : MailboxHeader → CoeHeader → Result CoeCommand Refusal → H) → ((m : MailboxHeader) (c : CoeHeader) → make m c (Err Undecodable) ≡ none)
+  -- ".. or specifier", unless the service is 1: then an emergency, and byte 8 is not judged
+  module _ (least : ℕ) {H : Type 0} (f : Headers H → Verdict) where
+    pub sdo_decoded : (make : MailboxHeader → CoeHeader → Result CoeCommand Refusal → Result (rust.Option (Headers H)) Refusal)
+        → ((m : MailboxHeader) (c : CoeHeader) → make m c (Err Undecodable) ≡ Err Undecodable)
         → {x : Option Finding}
         → ((t : MailboxType) (v : CoeService) (k : CoeCommand) → names.type_number t ≡ the mailbox_type s → names.command_number k ≡ the specifier s
-        → Tells s (judged (λ m c. make m c (Ok k)) (Ok t) (Ok v)) x)
+        → Tells s (on_headers s (in_turn (λ m c. make m c (Ok k)) (Ok t) (Ok v)) f) x)
         → Tells s
-        (on (pick (under least s) none (in_reply none λ m c. unless_one alarmed c (make m c (names.command_of (the specifier s))))) f)
+        (on_headers s (pick (under least s) (Err Undecodable) (in_reply λ m c. unless_one c (make m c (names.command_of (the specifier s))))) f)
         (pick (under least s) (some (refuse 0x20))
         (pick (unlisted types (the mailbox_type s)) (some (refuse 0x20))
         (pick (unlisted services (the service s)) (some (refuse 0x20))
@@ -231,9 +244,9 @@ module _ (s : List ℕ) where
         (pick (eqb (the service s) 1) (some (emergency (at 8 9 s) (at 10 10 s) (at 11 15 s)))
         x))))))
     unfolding emergency_in answer_of
-    sdo_decoded alarmed e make no_third p =
-        decoded (λ m c. unless_one alarmed c (make m c (names.command_of (the specifier s)))) λ t v et ev.
+    sdo_decoded make no_third p =
+        decoded least (on_headers {H = H} s) f refl (λ m c. unless_one c (make m c (names.command_of (the specifier s)))) λ t v et ev.
         rw ev
         (by (eqb (the service s) 1)
-        (λ y. rw (y, e) (line s (under 16 s) _ _ message_told))
-        (λ n. rw n (third (specifier_look (the specifier s)) make no_third t v λ k ek. p t v k et ek)))
+        (λ y. rw y (line s (under 16 s) _ _ message_told))
+        (λ n. rw n (third least (on_headers {H = H} s) f refl (specifier_look (the specifier s)) make no_third t v λ k ek. p t v k et ek)))

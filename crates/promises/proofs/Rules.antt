@@ -8,10 +8,10 @@ use native.Mathlib.Omega.{arith}
 use borrow.Author.Tests.{eqb-true, eqb-false, ltb-true, ltb-false, lt-ltb, le-ltb}
 use lib.Dec.{ltb, leb, eqb}
 use lib.ListN.{length}
-use Rattle.std.specs.Prelude.{Ok, Err, Some, None}
+use Rattle.std.specs.Prelude.{Ok, Some, None}
 use Rattle.wire.specs.Words.{pick, both, first_of, map_ok}
 use Rattle.wire.proofs.Cases.{by}
-use Rattle.wire.specs.declared.refusal.Refusal.TheVariants.{Undecodable, WrongReply, MissingBytes}
+use Rattle.wire.specs.declared.refusal.Refusal.TheVariants.{WrongReply, MissingBytes}
 use Rattle.mailbox.specs.Fields.{the, length_field, mailbox_type, expedited, size, specifier, index, sub_index, last_segment, unused_count, operation, incomplete}
 use Rattle.mailbox.specs.Numbers.{command_number}
 use Rattle.mailbox.specs.Headers.{sdo_header_of, segmented_of, sdo_info_of}
@@ -19,7 +19,6 @@ use Rattle.mailbox.specs.declared.numbers.MailboxType.{MailboxType}
 use Rattle.mailbox.specs.declared.numbers.CoeService.{CoeService}
 use Rattle.mailbox.specs.declared.numbers.CoeCommand.{CoeCommand}
 use Rattle.mailbox.specs.declared.sdo.SdoHeader.{SdoHeader}
-use Rattle.mailbox.specs.declared.segment.SdoHeaderSegmented.{SdoHeaderSegmented}
 use Rattle.judge.specs.Answers.{answer_of}
 use Rattle.judge.specs.Headers.{wrong_type, wrong_address}
 use Rattle.judge.specs.Alarm.{abort_in}
@@ -88,14 +87,14 @@ module _ (s : List ℕ) where
     reply_told : ((t : MailboxType) (v : CoeService) (k : CoeCommand)
         → Tells s
         (on_headers s
-        (in_turn s (Err Undecodable) (λ m c. header_in (front_of m c) (map_ok (sdo_header_of s) (Ok k))) (Ok t) (Ok v))
+        (in_turn s (λ m c. header_in (front_of m c) (map_ok (sdo_header_of s) (Ok k))) (Ok t) (Ok v))
         f)
         (first_of kind))
         → Tells s (reply_to i b s f) (first_of (sdo 12 s ++ addressed i b s ++ kind))
     unfolding first_of reply_to wrong_address wrong_type answer_of
     reply_told p =
         rw (sdo_read s)
-        (sdo_decoded s 12 (on_headers {H = SdoHeader} s) _ (Err Undecodable) refl (Ok None) refl
+        (sdo_decoded s 12 _
         (λ m c k. header_in (front_of m c) (map_ok (sdo_header_of s) k)) (λ m c. refl)
         λ t v k et ek.
         abort_lines k ek _ _
@@ -141,7 +140,7 @@ module _ (s : List ℕ) where
   unfolding first_of judge_segment wrong_type segment_of answer_of
   segment_told earlier n =
       rw (segment_read s)
-      (sdo_decoded s 9 (on_headers {H = SdoHeaderSegmented} s) _ (Err Undecodable) refl (Ok None) refl
+      (sdo_decoded s 9 _
       (λ m c k. header_in (front_of m c) (map_ok (segmented_of s) k)) (λ m c. refl)
       λ t v k et ek.
       abort_lines k ek _ _
@@ -166,7 +165,7 @@ module _ (s : List ℕ) where
   information_told begun earlier n =
       let k = the length_field s - 8 in
       rw (information_read s)
-      (information_decoded s 12 on_information_headers _ (Err Undecodable) refl (λ m c o. information_in m c (map_ok (sdo_info_of s) o))
+      (information_decoded s 12 on_information_headers _ refl (λ m c o. information_in m c (map_ok (sdo_info_of s) o))
       (λ m c. refl) λ t v o eo.
       rw (eo, other_way (eqb (the operation s) 2), fragment_place begun)
       (line s (not (eqb (the operation s) 2)) _ _

@@ -92,7 +92,7 @@ module _ (kind : ℕ) (begun : Bool) (earlier n : ℕ) (s : List ℕ) where
   decoded : (a : Result MailboxType Refusal) (b : Result CoeService Refusal) {q : Result SdoInfoOpCode Refusal} {among : Bool}
       → Look names.operation_number Ok (Err Undecodable) (the operation s) q among
       → Told kind s
-      (on_information_headers (in_turn s (Err Undecodable) (λ m c. information_in m c (map_ok (sdo_info_of s) q)) a b) judged_as)
+      (on_information_headers (in_turn s (λ m c. information_in m c (map_ok (sdo_info_of s) q)) a b) judged_as)
   decoded (Err r) b l = refused
   decoded (Ok t) (Err r) l = refused
   decoded (Ok t) (Ok v) (missing e m) = rw e refused
