@@ -13,8 +13,8 @@ pub(crate) struct DigitTable {
 impl DigitTable {
     pub(crate) fn new() -> DigitTable {
         let mut of = [0; 256];
-        for c in 0..256 {
-            of[c] = order_text::digit(c as u8);
+        for (c, digit) in of.iter_mut().enumerate() {
+            *digit = order_text::digit(c as u8);
         }
         DigitTable { of }
     }

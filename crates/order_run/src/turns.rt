@@ -159,6 +159,7 @@ pub(crate) fn print_answer(
     let called = desk.called(decided);
     let answer = called.answer;
     let after = called.desk;
+    // The answer is the record that C is given, so that its number stays one.
     if answer.number == 0x00 {
         return done(after, answer.length, data, out, at);
     }

@@ -6,4 +6,4 @@ use Rattle.order_text.specs.Digits.{digit_of}
 use Rattle.order_run.proofs.table.DigitTable.new.Given as goal
 
 abbrev pub invariant-loop-c : goal.invariant-loop-c
-invariant-loop-c l = (length l.of ≡ 256) × ((k : ℕ) → k < l.c → get_or l.of k 0 ≡ digit_of k)
+invariant-loop-c l = (length l.digit-items ≡ 256) × ((k : ℕ) → k < l.c → get_or l.digit-items k 0 ≡ digit_of k)
