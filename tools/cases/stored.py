@@ -32,7 +32,7 @@ def check(buffer):
 
 
 def pieces(texts):
-    """The lines, with empty ones between so that none crosses a piece of 65,536 bytes: the stored files are laid out so."""
+    """The lines, with empty ones between so that no line crosses a piece: the program reads 65,536 bytes at a time."""
     out, room = [], PIECE
     for text in texts:
         if room < len(text) + 1:
