@@ -24,7 +24,7 @@ fn written(
     size: usize,
     buffer: &[u8],
 ) -> io::Result<()> {
-    print!(rt; "{:02x} ", services::number_of(wrote))?;
+    print!(rt; "{:02x} ", services::number_of(wrote.map_err(Refusal::number)))?;
     show::first(rt, buffer, 16)?;
     let last = size
         .checked_sub(1)

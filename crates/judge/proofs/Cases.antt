@@ -11,6 +11,7 @@ use lib.ListN.{length}
 use Rattle.std.specs.Prelude.{Result, Ok, Err, Option, Some, None}
 use Rattle.wire.specs.Words.{pick}
 use Rattle.wire.proofs.Cases.{by}
+use Rattle.wire.specs.Refusal.{number_of}
 use Rattle.wire.specs.declared.refusal.Refusal.{Refusal}
 use Rattle.wire.specs.declared.refusal.Refusal.TheVariants.{Undecodable, WrongReply, TooLarge, MissingBytes, LengthField}
 use Rattle.mailbox.specs.Fields.{the, complete_size}
@@ -42,10 +43,10 @@ there size from len =
 
 -- what holds of an SDO reply that is refused or raises an alarm
 pub record Alarming (P : Verdict → Type 0) : Type 0 where
-  pub refused : P (Refused Undecodable)
+  pub refused : P (Refused (number_of Undecodable))
   pub emergency : (message : ℕ) → P (Emergency message)
   pub aborted : (sub index code : ℕ) → P (Aborted sub index code)
-  pub other : P (Refused WrongReply)
+  pub other : P (Refused (number_of WrongReply))
 
 module _ (P : Verdict → Type 0) where
   test : (b : Bool) (v w : Verdict) → (b ≡ true → P v) → (b ≡ false → P w) → P (pick b v w)
@@ -88,7 +89,7 @@ module _ (P : Verdict → Type 0) where
   unfolding judge_download
   download_cases index sub s a p = reply_cases index sub s _ a λ h. download_rule (length s) a p
 
-  module _ (s : List ℕ) (missing : P (Refused MissingBytes)) (done : (from p : ℕ) → p ≤ length s - from → P (Done from p)) where
+  module _ (s : List ℕ) (missing : P (Refused (number_of MissingBytes))) (done : (from p : ℕ) → p ≤ length s - from → P (Done from p)) where
     expedited_rule : (unused : ℕ) → P (expedited_of (length s) unused)
     unfolding expedited_of
     expedited_rule unused =
@@ -98,36 +99,36 @@ module _ (P : Verdict → Type 0) where
     unfolding whole_of
     whole_rule d = test (lacking (length s) normal_at d) _ _ (λ e. missing) (λ e. done normal_at d (there (length s) normal_at d e))
 
-    normal_rule : (length_field n : ℕ) → Alarming P → P (Refused TooLarge) → P SegmentsFollow → P (normal_of s length_field n)
+    normal_rule : (length_field n : ℕ) → Alarming P → P (Refused (number_of TooLarge)) → P SegmentsFollow → P (normal_of s length_field n)
     unfolding normal_of
     normal_rule length_field n a big on =
         either_way (ltb (length s) normal_least) _ _ a.refused
         (either_way (ltb n (the complete_size s)) _ _ big
         (either_way (leb (the complete_size s) (d_of length_field)) _ _ (whole_rule (d_of length_field)) on))
 
-    upload_rule : (h : Headers SdoHeader) (n : ℕ) → Alarming P → P (Refused TooLarge) → P SegmentsFollow → P (upload_of s h n)
+    upload_rule : (h : Headers SdoHeader) (n : ℕ) → Alarming P → P (Refused (number_of TooLarge)) → P SegmentsFollow → P (upload_of s h n)
     unfolding upload_of
     upload_rule h n a big on =
         either_way h.header.expedited_transfer _ _ (expedited_rule h.header.size) (normal_rule h.mailbox.length n a big on)
 
-    pub upload_cases : (index sub n : ℕ) → Alarming P → P (Refused TooLarge) → P SegmentsFollow → P (judge_upload index sub n s)
+    pub upload_cases : (index sub n : ℕ) → Alarming P → P (Refused (number_of TooLarge)) → P SegmentsFollow → P (judge_upload index sub n s)
     unfolding judge_upload
     upload_cases index sub n a big on = reply_cases index sub s _ a λ h. upload_rule h n a big on
 
-  chunk_tests : (x b : Bool) (sum : ℕ) (f : ℕ → Verdict) → P (Refused MissingBytes) → (x ≡ false → b ≡ false → P (f sum))
+  chunk_tests : (x b : Bool) (sum : ℕ) (f : ℕ → Verdict) → P (Refused (number_of MissingBytes)) → (x ≡ false → b ≡ false → P (f sum))
       → P (on_chunk (pick x None (pick b None (Some sum))) f)
   chunk_tests true b sum f r p = r
   chunk_tests false true sum f r p = r
   chunk_tests false false sum f r p = p refl refl
 
-  chunk_cases : (size from len earlier n : ℕ) (f : ℕ → Verdict) → P (Refused MissingBytes) → (len ≤ size - from → earlier + len ≤ n → P (f (earlier + len)))
+  chunk_cases : (size from len earlier n : ℕ) (f : ℕ → Verdict) → P (Refused (number_of MissingBytes)) → (len ≤ size - from → earlier + len ≤ n → P (f (earlier + len)))
       → P (on_chunk (chunk_at size from len earlier n) f)
   unfolding chunk_at
   chunk_cases size from len earlier n f r p =
       chunk_tests (lacking size from len) (ltb n (earlier + len)) (earlier + len) f r λ e g.
       p (there size from len e) (ltb-false n (earlier + len) g)
 
-  module _ (s : List ℕ) (earlier n : ℕ) (short : P (Refused LengthField)) (missing : P (Refused MissingBytes)) where
+  module _ (s : List ℕ) (earlier n : ℕ) (short : P (Refused (number_of LengthField))) (missing : P (Refused (number_of MissingBytes))) where
     segment_rule : (h : Headers SdoHeaderSegmented) → ((from len : ℕ) (last : Bool) → len ≤ length s - from → earlier + len ≤ n → P (Segment from len (earlier + len) last))
         → P (segment_of (length s) h earlier n)
     unfolding segment_of
@@ -153,12 +154,12 @@ module _ (P : Verdict → Type 0) where
         either_way (ltb h.mailbox.length 8) _ _ short
         (chunk_cases (length s) from len earlier n _ missing (p from len (not h.header.incomplete)))
 
-    information_headers : (q : Result (Headers SdoInfoHeader) Refusal) (f : Headers SdoInfoHeader → Verdict) → P (Refused Undecodable) → ((h : Headers SdoInfoHeader) → P (f h))
+    information_headers : (q : Result (Headers SdoInfoHeader) Refusal) (f : Headers SdoInfoHeader → Verdict) → P (Refused (number_of Undecodable)) → ((h : Headers SdoInfoHeader) → P (f h))
         → P (on_information_headers q f)
     information_headers (Err refusal) f p q = p
     information_headers (Ok h) f p q = q h
 
-    pub list_cases : (begun : Bool) → P (Refused Undecodable) → P ReplyDue
+    pub list_cases : (begun : Bool) → P (Refused (number_of Undecodable)) → P ReplyDue
         → ((from len : ℕ) (last : Bool) → len ≤ length s - from → earlier + len ≤ n → P (Fragment from len (earlier + len) last))
         → P (judge_list begun earlier n s)
     unfolding judge_list

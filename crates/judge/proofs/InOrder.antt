@@ -6,6 +6,7 @@ use mathlib.Core.List.{List}
 use Prim.Native.Nat.{ℕ}
 use lib.Dec.{eqb}
 use Rattle.std.specs.Prelude.{Result, Ok, Err, Option, Some, None, IsErr, IsErrAnd}
+use Rattle.wire.specs.Refusal.{number_of}
 use Rattle.wire.specs.declared.refusal.Refusal.{Refusal}
 use Rattle.wire.specs.declared.refusal.Refusal.TheVariants.{Undecodable, WrongReply}
 use Rattle.mailbox.specs.Numbers.{command_number}
@@ -31,7 +32,7 @@ module _ (s : List ℕ) (command : CoeCommand) (own : Verdict) where
   stopped wrong v is a = rw (is, a)
 
   module _ (other : command ≡ Abort → ⊥) (w wrong : Bool) (same : w ≡ wrong) where
-    pub astray : w ≡ true → Refused WrongReply ≡ in_order s command wrong own
+    pub astray : w ≡ true → Refused (number_of WrongReply) ≡ in_order s command wrong own
     unfolding in_order
     astray t = rw (no_abort command other, ← same, t)
 
@@ -41,7 +42,7 @@ module _ (s : List ℕ) (command : CoeCommand) (own : Verdict) where
 
 -- what headers were read
 module _ {H : Type 0} (s : List ℕ) (r q : Result (Option (Headers H)) Refusal) (e : r ≡ q) (f : Headers H → Verdict) where
-  pub unheaded : (refusal : Refusal) → r ≡ Err refusal → Refused Undecodable ≡ on_headers s q f
+  pub unheaded : (refusal : Refusal) → r ≡ Err refusal → Refused (number_of Undecodable) ≡ on_headers s q f
   unheaded refusal t = rw (← e, t)
 
   pub alarmed : (v : Verdict) → r ≡ Ok None → v ≡ emergency_in s → v ≡ on_headers s q f

@@ -8,7 +8,6 @@ use lib.Dec.{leb}
 use lib.ListN.{length, length-append, length-take, length-drop}
 use Rattle.wire.specs.Refusal.{number_of}
 use Rattle.wire.specs.Store.{laid, part}
-use Rattle.wire.specs.declared.refusal.Refusal.{Refusal}
 use Rattle.wire.specs.declared.refusal.Refusal.TheVariants.{Undecodable, WrongReply, MissingBytes, LengthField}
 use Rattle.judge.specs.Answers.{done_or, answer_of}
 use Rattle.judge.specs.Download.{judge_download}
@@ -42,24 +41,24 @@ module _ (earlier n : ℕ) (s : List ℕ) where
   nothing : (v : Verdict) → sum_after earlier v ≡ earlier → length (taken v s) ≡ 0 → ((answer_of v).number ≡ 0x00 → ⊥) → Sound earlier n s v
   nothing v e z never = record { sum = omega arith; fits = λ h. omega arith; ends = λ d. absurd (never d) }
 
-  refused : (r : Refusal) → (number_of r ≡ 0 → ⊥) → Sound earlier n s (Refused r)
+  refused : (number : ℕ) → (number ≡ 0 → ⊥) → Sound earlier n s (Refused number)
   unfolding answer_of
-  refused r never = nothing (Refused r) refl refl never
+  refused number never = nothing (Refused number) refl refl never
 
   alarming : Alarming (Sound earlier n s)
   unfolding answer_of
   alarming =
       record {
-        refused = refused Undecodable (λ e. omega arith);
+        refused = refused (number_of Undecodable) (λ e. omega arith);
         emergency = λ m. nothing (Emergency m) refl refl (λ e. omega arith);
         aborted = λ b i c. nothing (Aborted b i c) refl refl (λ e. omega arith);
-        other = refused WrongReply (λ e. omega arith);
+        other = refused (number_of WrongReply) (λ e. omega arith);
       }
 
   pub segment_sound : Sound earlier n s (judge_segment earlier n s)
   unfolding answer_of
   segment_sound =
-      segment_cases (Sound earlier n s) s earlier n (refused LengthField (λ e. omega arith)) (refused MissingBytes (λ e. omega arith)) alarming λ from len last h k.
+      segment_cases (Sound earlier n s) s earlier n (refused (number_of LengthField) (λ e. omega arith)) (refused (number_of MissingBytes) (λ e. omega arith)) alarming λ from len last h k.
       let l : length (part s from len) ≡ len = part_length s from len h in
       record {
         sum = omega arith;
@@ -70,8 +69,8 @@ module _ (earlier n : ℕ) (s : List ℕ) where
   pub list_sound : (begun : Bool) → Sound earlier n s (judge_list begun earlier n s)
   unfolding answer_of
   list_sound begun =
-      list_cases (Sound earlier n s) s earlier n (refused LengthField (λ e. omega arith)) (refused MissingBytes (λ e. omega arith)) begun
-      (refused Undecodable (λ e. omega arith)) (nothing ReplyDue refl refl (λ e. omega arith)) λ from len last h k.
+      list_cases (Sound earlier n s) s earlier n (refused (number_of LengthField) (λ e. omega arith)) (refused (number_of MissingBytes) (λ e. omega arith)) begun
+      (refused (number_of Undecodable) (λ e. omega arith)) (nothing ReplyDue refl refl (λ e. omega arith)) λ from len last h k.
       let l : length (part s from len) ≡ len = part_length s from len h in
       record {
         sum = omega arith;

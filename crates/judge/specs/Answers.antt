@@ -3,7 +3,6 @@
 use Rattle.std.specs.Prelude.{Bool, false, List, [], ◌∷◌, ℕ, ◌-◌, ◌*◌, eqb}
 use Rattle.wire.specs.Words.{pick, either}
 use Rattle.wire.specs.Fields.{get}
-use Rattle.wire.specs.Refusal.{number_of}
 use Rattle.mailbox.specs.Fields.{Name, place, emergency_code, error_register, emergency_data}
 use Rattle.judge.specs.Places.{message_at}
 use Rattle.judge.specs.declared.Verdict.{Verdict}
@@ -29,7 +28,7 @@ in_message f message = get (record { first = (place f).first - 8 * message_at; w
 -- "21 emergency: code, register"; document 02, [5]: "Answer 21 now also hands back the five bytes"; "22 aborted: code, index, sub-index";
 -- "01, 02 request due, reply due"
 unfoldable pub answer_of : Verdict → Answer
-answer_of (Refused refusal) = plain_of (number_of refusal)
+answer_of (Refused n) = plain_of n
 answer_of (Emergency message) =
     record {
       number = 0x21;

@@ -2,6 +2,7 @@
 -- call's N, else 25." Assumes nothing.
 use Rattle.std.specs.Prelude.{Bool, false, ℕ, ◌+◌, ltb, eqb, Option, Some, None}
 use Rattle.wire.specs.Words.{pick}
+use Rattle.wire.specs.Refusal.{number_of}
 use Rattle.wire.specs.declared.refusal.Refusal.TheVariants.{MissingBytes}
 use Rattle.judge.specs.declared.Verdict.{Verdict}
 use Rattle.judge.specs.declared.Verdict.TheVariants.{Refused}
@@ -19,5 +20,5 @@ chunk_at size from len earlier n =
 
 -- "else 25"
 abbrev pub on_chunk : Option ℕ → (ℕ → Verdict) → Verdict
-on_chunk None f = Refused MissingBytes
+on_chunk None f = Refused (number_of MissingBytes)
 on_chunk (Some sum) f = f sum

@@ -1,6 +1,7 @@
 -- Replies to the request for an object list. "Information replies: one request, many replies." Assumes nothing.
 use Rattle.std.specs.Prelude.{Bool, not, List, ℕ, ◌-◌, ltb, eqb, length, Result, Ok, Err}
 use Rattle.wire.specs.Words.{pick}
+use Rattle.wire.specs.Refusal.{number_of}
 use Rattle.wire.specs.declared.refusal.Refusal.{Refusal}
 use Rattle.wire.specs.declared.refusal.Refusal.TheVariants.{Undecodable, LengthField}
 use Rattle.mailbox.specs.Numbers.{operation_number}
@@ -20,12 +21,12 @@ fragment_at begun = pick begun later_fragment_at first_fragment_at
 -- due; clear: done."
 unfoldable pub fragment_of : ℕ → Headers SdoInfoHeader → ℕ → ℕ → ℕ → Verdict
 fragment_of size h from earlier n =
-    pick (ltb h.mailbox.length 8) (Refused LengthField)
+    pick (ltb h.mailbox.length 8) (Refused (number_of LengthField))
     (on_chunk (chunk_at size from (h.mailbox.length - 8) earlier n) λ sum.
     Fragment from (h.mailbox.length - 8) sum (not h.header.incomplete))
 
 abbrev pub on_information_headers : Result (Headers SdoInfoHeader) Refusal → (Headers SdoInfoHeader → Verdict) → Verdict
-on_information_headers (Err refusal) f = Refused Undecodable
+on_information_headers (Err refusal) f = Refused (number_of Undecodable)
 on_information_headers (Ok h) f = f h
 
 -- "Under 12 bytes or an unlisted type, service or operation: 20. Operation other than 2: reply due, nothing stored."

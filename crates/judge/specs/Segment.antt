@@ -1,6 +1,7 @@
 -- The reply to the request for a segment. Assumes nothing.
 use Rattle.std.specs.Prelude.{List, ℕ, ◌-◌, ltb, eqb, length}
 use Rattle.wire.specs.Words.{pick}
+use Rattle.wire.specs.Refusal.{number_of}
 use Rattle.wire.specs.declared.refusal.Refusal.TheVariants.{LengthField}
 use Rattle.mailbox.specs.declared.segment.SdoHeaderSegmented.{SdoHeaderSegmented}
 use Rattle.judge.specs.Places.{segment_at}
@@ -19,7 +20,7 @@ chunk_length length_field unused = pick (eqb (length_field - 3) 7) (7 - unused) 
 -- chunk that is said: bytes that the unused count takes off need not be there.
 unfoldable pub segment_of : ℕ → Headers SdoHeaderSegmented → ℕ → ℕ → Verdict
 segment_of size h earlier n =
-    pick (ltb h.mailbox.length 3) (Refused LengthField)
+    pick (ltb h.mailbox.length 3) (Refused (number_of LengthField))
     (on_chunk (chunk_at size segment_at (chunk_length h.mailbox.length h.header.segment_data_size) earlier n) λ sum.
     Segment segment_at (chunk_length h.mailbox.length h.header.segment_data_size) sum h.header.is_last_segment)
 

@@ -12,7 +12,7 @@ pub(crate) fn emergency(s: &[u8]) -> Verdict
     ensures { result ≡ emergency_in s.now }
 {
     if s.len() < EMERGENCY_LEAST {
-        return Verdict::Refused(Refusal::Undecodable);
+        return Verdict::Refused(Refusal::Undecodable.number());
     }
     Verdict::Emergency(wire::eight_at(s, MESSAGE_AT))
 }
@@ -23,7 +23,7 @@ pub(crate) fn abort(s: &[u8]) -> Verdict
     ensures { result ≡ abort_in s.now }
 {
     if s.len() < ABORT_LEAST {
-        return Verdict::Refused(Refusal::Undecodable);
+        return Verdict::Refused(Refusal::Undecodable.number());
     }
     Verdict::Aborted {
         sub: wire::byte(s, SUB_INDEX),

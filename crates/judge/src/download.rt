@@ -15,7 +15,7 @@ fn download(size: usize) -> Verdict
     ensures { result ≡ download_of size }
 {
     if size < DOWNLOAD_LEAST {
-        return Verdict::Refused(Refusal::Undecodable);
+        return Verdict::Refused(Refusal::Undecodable.number());
     }
     Verdict::Done { from: 0, len: 0 }
 }
@@ -26,14 +26,14 @@ pub fn judge_download(s: &[u8], index: u16, sub: u8) -> Verdict
     ensures { result ≡ judge_download index sub s.now }
 {
     match read_behind::<SdoHeader>(s, SDO_LEAST) {
-        Err(_) => Verdict::Refused(Refusal::Undecodable),
+        Err(_) => Verdict::Refused(Refusal::Undecodable.number()),
         Ok(None) => emergency(s),
         Ok(Some(h)) => {
             if h.header.command == CoeCommand::Abort {
                 return abort(s);
             }
             if wrong_address(h, index, sub) {
-                return Verdict::Refused(Refusal::WrongReply);
+                return Verdict::Refused(Refusal::WrongReply.number());
             }
             download(s.len())
         }

@@ -26,11 +26,11 @@ fn fragment(size: usize, h: Headers<SdoInfoHeader>, from: u8, earlier: u32, n: u
     ensures { result ≡ fragment_of size h from earlier n }
 {
     if h.mailbox.length < 8 {
-        return Verdict::Refused(Refusal::LengthField);
+        return Verdict::Refused(Refusal::LengthField.number());
     }
     let len = h.mailbox.length - 8;
     let Some(sum) = chunk_at(size, from, len, earlier, n) else {
-        return Verdict::Refused(Refusal::MissingBytes);
+        return Verdict::Refused(Refusal::MissingBytes.number());
     };
     Verdict::Fragment {
         from,
@@ -46,7 +46,7 @@ pub fn judge_list(s: &[u8], begun: bool, earlier: u32, n: u32) -> Verdict
     ensures { result ≡ judge_list begun earlier n s.now }
 {
     match read_information_headers(s) {
-        Err(_) => Verdict::Refused(Refusal::Undecodable),
+        Err(_) => Verdict::Refused(Refusal::Undecodable.number()),
         Ok(h) => {
             if h.header.op_code == SdoInfoOpCode::GetObjectDescriptionListResponse {
                 return fragment(s.len(), h, fragment_at(begun), earlier, n);

@@ -6,8 +6,6 @@
 ghost use Rattle.std.specs.Prelude.{◌≡◌};
 ghost use Rattle.judge.specs.Answers.{plain_of, done_with, done_or, answer_of};
 
-use wire::refusal::Refusal;
-
 mod alarm;
 mod chunk;
 pub mod download;
@@ -29,7 +27,7 @@ pub use upload::judge_upload;
 #[derive(Clone, Copy, Debug, PartialEq, Eq)]
 pub enum Verdict {
     // Not a Result around the rest: a segment of 1,486 bytes takes some thirty instructions more then, and more than plain Rust (docs/SPEED.md).
-    Refused(Refusal),
+    Refused(u8),
     // Its eight bytes as one number. With its fields apart, or an abort's in another order, each judge is more than the compiler puts into
     // its callers, and every reply takes some forty instructions more.
     Emergency(u64),
@@ -110,7 +108,7 @@ pub fn answer_of(verdict: Verdict) -> Answer
     ensures { result ≡ answer_of verdict }
 {
     match verdict {
-        Verdict::Refused(refusal) => plain(refusal.number()),
+        Verdict::Refused(number) => plain(number),
         Verdict::Emergency(message) => Answer {
             number: 0x21,
             sub: (message / 65536 % 256) as u8,

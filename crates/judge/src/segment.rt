@@ -28,11 +28,11 @@ fn segment(size: usize, h: Headers<SdoHeaderSegmented>, earlier: u32, n: u32) ->
     ensures { result ≡ segment_of size h earlier n }
 {
     if h.mailbox.length < 3 {
-        return Verdict::Refused(Refusal::LengthField);
+        return Verdict::Refused(Refusal::LengthField.number());
     }
     let len = chunk_length(h.mailbox.length, h.header.segment_data_size);
     let Some(sum) = chunk_at(size, SEGMENT_AT, len, earlier, n) else {
-        return Verdict::Refused(Refusal::MissingBytes);
+        return Verdict::Refused(Refusal::MissingBytes.number());
     };
     Verdict::Segment {
         from: SEGMENT_AT,
@@ -48,14 +48,14 @@ pub fn judge_segment(s: &[u8], earlier: u32, n: u32) -> Verdict
     ensures { result ≡ judge_segment earlier n s.now }
 {
     match read_behind::<SdoHeaderSegmented>(s, SEGMENT_LEAST) {
-        Err(_) => Verdict::Refused(Refusal::Undecodable),
+        Err(_) => Verdict::Refused(Refusal::Undecodable.number()),
         Ok(None) => emergency(s),
         Ok(Some(h)) => {
             if h.header.command == CoeCommand::Abort {
                 return abort(s);
             }
             if wrong_type(h.mailbox) {
-                return Verdict::Refused(Refusal::WrongReply);
+                return Verdict::Refused(Refusal::WrongReply.number());
             }
             segment(s.len(), h, earlier, n)
         }

@@ -17,7 +17,7 @@ fn expedited(size: usize, unused: u8) -> Verdict
 {
     let len = 4_u16.saturating_sub(unused as u16);
     if lacks(size, EXPEDITED_AT, len) {
-        return Verdict::Refused(Refusal::MissingBytes);
+        return Verdict::Refused(Refusal::MissingBytes.number());
     }
     Verdict::Done {
         from: EXPEDITED_AT,
@@ -32,7 +32,7 @@ fn whole(size: usize, len: u16) -> Verdict
     ensures { result ≡ whole_of size len }
 {
     if size < (NORMAL_AT as usize) + (len as usize) {
-        return Verdict::Refused(Refusal::MissingBytes);
+        return Verdict::Refused(Refusal::MissingBytes.number());
     }
     Verdict::Done {
         from: NORMAL_AT,
@@ -45,11 +45,11 @@ fn normal(s: &[u8], length: u16, n: u32) -> Verdict
     ensures { result ≡ normal_of s.now length n }
 {
     if s.len() < NORMAL_LEAST {
-        return Verdict::Refused(Refusal::Undecodable);
+        return Verdict::Refused(Refusal::Undecodable.number());
     }
     let complete_size = wire::long_at(s, COMPLETE_SIZE);
     if n < complete_size {
-        return Verdict::Refused(Refusal::TooLarge);
+        return Verdict::Refused(Refusal::TooLarge.number());
     }
     let d = length.saturating_sub(10);
     if complete_size <= (d as u32) {
@@ -75,14 +75,14 @@ pub fn judge_upload(s: &[u8], index: u16, sub: u8, n: u32) -> Verdict
     ensures { result ≡ judge_upload index sub n s.now }
 {
     match read_behind::<SdoHeader>(s, SDO_LEAST) {
-        Err(_) => Verdict::Refused(Refusal::Undecodable),
+        Err(_) => Verdict::Refused(Refusal::Undecodable.number()),
         Ok(None) => emergency(s),
         Ok(Some(h)) => {
             if h.header.command == CoeCommand::Abort {
                 return abort(s);
             }
             if wrong_address(h, index, sub) {
-                return Verdict::Refused(Refusal::WrongReply);
+                return Verdict::Refused(Refusal::WrongReply.number());
             }
             upload(s, h, n)
         }

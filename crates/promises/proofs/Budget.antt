@@ -5,6 +5,7 @@ use mathlib.Core.List.{List}
 use Prim.Native.Nat.{ℕ}
 use lib.Dec.{eqb}
 use Rattle.wire.specs.Words.{pick, both, either}
+use Rattle.wire.specs.Refusal.{number_of}
 use Rattle.wire.specs.declared.refusal.Refusal.TheVariants.{BudgetSpent}
 use Rattle.judge.specs.Answers.{done_or, answer_of}
 use Rattle.judge.specs.declared.Verdict.{Verdict}
@@ -48,5 +49,5 @@ pub budget_rule : BudgetRule
 unfolding budgeted answer_of
 budget_rule spent r earlier n s =
     let v = judge_reply r earlier n s in
-    ap (λ (g : Bool). finding (pick (both spent g) (Refused BudgetSpent) v) s) (numbered r earlier n s)
-    ∙ told_either (both spent (due (answer_of v).number)) (Refused BudgetSpent) v s
+    ap (λ (g : Bool). finding (pick (both spent g) (Refused (number_of BudgetSpent)) v) s) (numbered r earlier n s)
+    ∙ told_either (both spent (due (answer_of v).number)) (Refused (number_of BudgetSpent)) v s

@@ -10,6 +10,7 @@ use lib.Dec.{ltb, eqb, lit≤}
 use lib.ListN.{length}
 use Rattle.std.specs.Prelude as rust
 use Rattle.std.specs.Prelude.{Result, Ok, Err}
+use Rattle.wire.specs.Refusal.{number_of}
 use Rattle.wire.specs.declared.refusal.Refusal.{Refusal}
 use Rattle.wire.specs.declared.refusal.Refusal.TheVariants.{Undecodable}
 use Rattle.wire.specs.Words.{pick, both, map_ok}
@@ -178,11 +179,11 @@ module _ (s : List ℕ) where
   information_read = read_in_turn 12 (omega arith) (Err Undecodable) _ information_in (λ m c. refl)
 
   -- "Under 12 bytes, or an unlisted type, service ..": of any least length, and whatever is made of the first two headers
-  module _ (least : ℕ) {H K : Type 0} (on : Result H Refusal → (K → Verdict) → Verdict) (f : K → Verdict) (refused : on (Err Undecodable) f ≡ Refused Undecodable) where
+  module _ (least : ℕ) {H K : Type 0} (on : Result H Refusal → (K → Verdict) → Verdict) (f : K → Verdict) (refused : on (Err Undecodable) f ≡ Refused (number_of Undecodable)) where
     abbrev judged : (MailboxHeader → CoeHeader → Result H Refusal) → Result MailboxType Refusal → Result CoeService Refusal → Verdict
     judged make a b = on (in_turn make a b) f
 
-    on_pick : (b : Bool) (h : Result H Refusal) → on (pick b (Err Undecodable) h) f ≡ pick b (Refused Undecodable) (on h f)
+    on_pick : (b : Bool) (h : Result H Refusal) → on (pick b (Err Undecodable) h) f ≡ pick b (Refused (number_of Undecodable)) (on h f)
     on_pick true h = refused
     on_pick false h = refl
 
@@ -197,7 +198,7 @@ module _ (s : List ℕ) where
     unfolding answer_of
     decoded make p =
         rw (on_pick (under least s))
-        (line s (under least s) (Refused Undecodable) _
+        (line s (under least s) (Refused (number_of Undecodable)) _
         (listed s (type_look (the mailbox_type s)) (λ a. judged make a (names.service_of (the service s))) refused λ t et.
         listed s (service_look (the service s)) (judged make (Ok t)) refused λ v ev.
         p t v et ev))

@@ -9,6 +9,7 @@ use borrow.Author.Tests.{eqb-true}
 use lib.Dec.{eqb}
 use Rattle.wire.specs.Words.{pick, both, either}
 use Rattle.wire.proofs.Cases.{by}
+use Rattle.wire.specs.Refusal.{number_of}
 use Rattle.wire.specs.declared.refusal.Refusal.TheVariants.{Undecodable}
 use Rattle.mailbox.specs.Listed.{look_up}
 use Rattle.judge.specs.Answers.{answer_of, one_of}
@@ -64,7 +65,7 @@ module _ (s : List ℕ) where
   -- an unlisted number is 20
   pub listed : {A R : Type 0} {number : A → ℕ} {found : A → R} {none q : R} {n : ℕ} {among : Bool}
       → Look number found none n q among
-      → (judged : R → Verdict) → judged none ≡ Refused Undecodable
+      → (judged : R → Verdict) → judged none ≡ Refused (number_of Undecodable)
       → {x : Option Finding} → ((a : A) → number a ≡ n → Tells (judged (found a)) x)
       → Tells (judged q) (pick (not among) (some (refuse 0x20)) x)
   unfolding answer_of

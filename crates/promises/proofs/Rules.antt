@@ -11,6 +11,7 @@ use lib.ListN.{length}
 use Rattle.std.specs.Prelude.{Ok, Some, None}
 use Rattle.wire.specs.Words.{pick, both, first_of, map_ok}
 use Rattle.wire.proofs.Cases.{by}
+use Rattle.wire.specs.Refusal.{number_of}
 use Rattle.wire.specs.declared.refusal.Refusal.TheVariants.{WrongReply, MissingBytes}
 use Rattle.mailbox.specs.Fields.{the, length_field, mailbox_type, expedited, size, specifier, index, sub_index, last_segment, unused_count, operation, incomplete}
 use Rattle.mailbox.specs.Numbers.{command_number}
@@ -57,7 +58,7 @@ chunk_length_lem k unused =
     (λ n. rw n)
 
 chunk_picks : (b c : Bool) (sum : ℕ) (f : ℕ → Verdict)
-    → on_chunk (pick b None (pick c None (Some sum))) f ≡ pick b (Refused MissingBytes) (pick c (Refused MissingBytes) (f sum))
+    → on_chunk (pick b None (pick c None (Some sum))) f ≡ pick b (Refused (number_of MissingBytes)) (pick c (Refused (number_of MissingBytes)) (f sum))
 chunk_picks true c sum f = refl
 chunk_picks false true sum f = refl
 chunk_picks false false sum f = refl
@@ -74,13 +75,13 @@ fragment_place false = refl
 module _ (s : List ℕ) where
   -- rule 3, and behind it the fourth
   abort_lines : (k : CoeCommand) → command_number k ≡ the specifier s
-      → (wrong : Bool) (own : Verdict) {x : Option Finding} → Tells s (pick wrong (Refused WrongReply) own) x
+      → (wrong : Bool) (own : Verdict) {x : Option Finding} → Tells s (pick wrong (Refused (number_of WrongReply)) own) x
       → Tells s (in_order s k wrong own)
       (pick (both (eqb (the specifier s) 4) (under 16 s)) (some (refuse 0x20))
       (pick (eqb (the specifier s) 4) (some (aborted (at 12 15 s) (at 9 10 s) (at 11 11 s)))
       x))
   unfolding in_order abort_in answer_of
-  abort_lines k ek wrong own p = rw ek (guarded s (eqb (the specifier s) 4) (under 16 s) _ _ (pick wrong (Refused WrongReply) own) p)
+  abort_lines k ek wrong own p = rw ek (guarded s (eqb (the specifier s) 4) (under 16 s) _ _ (pick wrong (Refused (number_of WrongReply)) own) p)
 
   -- rules 1 to 4, and the kind's own behind them
   module _ (i b : ℕ) (f : Headers SdoHeader → Verdict) (kind : List Rule) where

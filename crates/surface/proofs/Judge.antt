@@ -8,6 +8,7 @@ use borrow.Author.Tests.{eqb-true}
 use lib.Dec.{eqb, ltb}
 use lib.ListN.{length}
 use Rattle.std.specs.Prelude.{Option, Some, None, Result, Ok, Err}
+use Rattle.wire.specs.Refusal.{number_of}
 use Rattle.wire.specs.declared.refusal.Refusal.{Refusal}
 use Rattle.wire.specs.declared.refusal.Refusal.TheVariants.{Undecodable}
 use Rattle.wire.specs.Words.{pick, either, first_of, map_ok}
@@ -70,7 +71,7 @@ segment_told kind earlier n s = segment_cases (Told kind s) s earlier n refl ref
 
 -- a list's reply: operation 2 is a fragment, which begins the list; another leaves it as it was
 module _ (kind : ℕ) (begun : Bool) (earlier n : ℕ) (s : List ℕ) where
-  refused : Told kind s (Refused Undecodable)
+  refused : Told kind s (Refused (number_of Undecodable))
   unfolding told_of answer_of besides
   refused = refl
 

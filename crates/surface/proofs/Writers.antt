@@ -22,7 +22,7 @@ use Rattle.mailbox.specs.declared.sub_index.SubIndex.TheVariants.{Complete, Inde
 use Rattle.line.specs.Numbers.{Test}
 use Rattle.line.proofs.Rulings.{within_true}
 use Rattle.services.specs.Requests.{packed_of}
-use Rattle.services.specs.Written.{fits, wrote_of, frame_with, is_flag, access_of, writable, checked_answer, checked_frame, number_of, Frames}
+use Rattle.services.specs.Written.{fits, wrote_of, frame_with, is_flag, access_of, writable, checked_answer, checked_frame, number_of, numbered, Frames}
 use Rattle.services.specs.declared.Request.{Request}
 use Rattle.services.specs.declared.Request.TheVariants.{Upload, Download, Segment, Information}
 use Rattle.services.proofs.Sizes.{packed_fits}
@@ -72,7 +72,7 @@ module _ {tests : List Test} {bytes : ℕ} {fields : List (Name × ℕ)} {skippe
 
   module _ (counter : ℕ) (r : Request) where
     go : (a b c : Bool) → first_of {A = ℕ} tests ≡ first_of (tested a b c (fits (length before)))
-        → number ≡ number_of (pick (both a (both b c)) (wrote_of (length before)) (Err BadOrder))
+        → number ≡ number_of (numbered (pick (both a (both b c)) (wrote_of (length before)) (Err BadOrder)))
         → after ≡ pick (both a (both b c)) (frame_with (packed_of counter r) before) before
         → (a ≡ true → b ≡ true → c ≡ true → Packs bytes fields skipped (packed_of counter r))
         → Writes tests bytes fields skipped before number after
@@ -95,7 +95,7 @@ module _ {tests : List Test} {bytes : ℕ} {fields : List (Name × ℕ)} {skippe
     unfolding checked_answer checked_frame
     flat {fine} a b c same e P F =
         go a b c e
-        (F.answer ∙ ap number_of (joint fine (writable counter r) (both a (both b c)) _ _ same))
+        (F.answer ∙ ap (λ w. number_of (numbered w)) (joint fine (writable counter r) (both a (both b c)) _ _ same))
         (F.frame ∙ joint fine (writable counter r) (both a (both b c)) _ _ same)
         P
 

@@ -10,6 +10,7 @@ use lib.Dec.{eqb}
 use lib.ListN.{length}
 use Rattle.wire.specs.Words.{pick, both}
 use Rattle.wire.proofs.Cases.{by}
+use Rattle.wire.specs.Refusal.{number_of}
 use Rattle.wire.specs.declared.refusal.Refusal.TheVariants.{BudgetSpent}
 use Rattle.judge.specs.Answers.{answer_of}
 use Rattle.judge.specs.Download.{judge_download}
@@ -89,7 +90,7 @@ unfolding budgeted
 not_spent false v e = (refl, refl)
 not_spent true v e = go (goes_on v) refl e
   where
-    go : (b : Bool) → goes_on v ≡ b → goes_on (pick b (Refused BudgetSpent) v) ≡ true → (true ≡ false) × (pick b (Refused BudgetSpent) v ≡ v)
+    go : (b : Bool) → goes_on v ≡ b → goes_on (pick b (Refused (number_of BudgetSpent)) v) ≡ true → (true ≡ false) × (pick b (Refused (number_of BudgetSpent)) v ≡ v)
     go true h k = cc
     go false h k = cc
 
@@ -97,6 +98,6 @@ pub done_unsettled : (spent : Bool) (v : Verdict) → (answer_of (budgeted spent
 unfolding budgeted answer_of
 done_unsettled spent v = go (both spent (goes_on v))
   where
-    go : (b : Bool) → (answer_of (pick b (Refused BudgetSpent) v)).number ≡ 0x00 → pick b (Refused BudgetSpent) v ≡ v
+    go : (b : Bool) → (answer_of (pick b (Refused (number_of BudgetSpent)) v)).number ≡ 0x00 → pick b (Refused (number_of BudgetSpent)) v ≡ v
     go true e = cc
     go false e = refl

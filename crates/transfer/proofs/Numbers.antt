@@ -11,6 +11,7 @@ use lib.ListN.{length}
 use Rattle.std.proofs.lemmas.Bool.{not-true}
 use Rattle.wire.specs.Words.{pick, both}
 use Rattle.wire.proofs.Cases.{by}
+use Rattle.wire.specs.Refusal.{number_of}
 use Rattle.wire.specs.declared.refusal.Refusal.TheVariants.{BudgetSpent}
 use Rattle.services.specs.Written.{fits}
 use Rattle.judge.specs.Answers.{answer_of, one_of, upload_numbers, download_numbers, segment_numbers, list_numbers}
@@ -68,7 +69,7 @@ settled_number : (spent : Bool) (v : Verdict) → Listed (answer_of v).number �
 unfolding budgeted answer_of
 settled_number spent v h = go (both spent (goes_on v))
   where
-    go : (b : Bool) → Listed (answer_of (pick b (Refused BudgetSpent) v)).number
+    go : (b : Bool) → Listed (answer_of (pick b (Refused (number_of BudgetSpent)) v)).number
     go true = refl
     go false = h
 

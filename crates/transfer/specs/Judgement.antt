@@ -3,6 +3,7 @@ use Rattle.std.specs.Prelude.{ℕ, ◌-◌, Bool, true, false, not, List, [], �
 use Rattle.std.specs.Prelude as rust
 use Rattle.std.proofs.Math.Option.{Option, none, some}
 use Rattle.wire.specs.Words.{pick, both}
+use Rattle.wire.specs.Refusal.{number_of}
 use Rattle.wire.specs.declared.refusal.Refusal.TheVariants.{BudgetSpent}
 use Rattle.judge.specs.Download.{judge_download}
 use Rattle.judge.specs.Upload.{judge_upload}
@@ -32,7 +33,7 @@ goes_on other = false
 
 -- "When the count reaches the budget and the answer would be 01 or 02, it is 27 and the chunk is not stored."
 unfoldable pub budgeted : Bool → Verdict → Verdict
-budgeted spent v = pick (both spent (goes_on v)) (Refused BudgetSpent) v
+budgeted spent v = pick (both spent (goes_on v)) (Refused (number_of BudgetSpent)) v
 
 -- the count reaches the budget where at most one reply is left
 unfoldable pub judged_as : Transfer → Reply → ℕ → List ℕ → Verdict

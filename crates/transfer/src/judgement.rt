@@ -38,7 +38,7 @@ fn settle(spent: bool, verdict: Verdict) -> Verdict
     ensures { result ≡ budgeted spent verdict }
 {
     if spent && goes_on(verdict) {
-        return Verdict::Refused(Refusal::BudgetSpent);
+        return Verdict::Refused(Refusal::BudgetSpent.number());
     }
     verdict
 }
