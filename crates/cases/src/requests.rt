@@ -24,7 +24,8 @@ fn written(
     size: usize,
     buffer: &[u8],
 ) -> io::Result<()> {
-    print!(rt; "{:02x} ", services::number_of(wrote.map_err(Refusal::number)))?;
+    let number = services::number_of(wrote.map_err(Refusal::number));
+    print!(rt; "{number:02x} ")?;
     show::first(rt, buffer, 16)?;
     let last = size
         .checked_sub(1)
