@@ -10,10 +10,10 @@ use std::marker::Model;
 pub const LONGEST: usize = 1486;
 
 // How many bytes there are, and the first digit of one that is begun.
-#[derive(Clone, Copy)]
+#[derive(Clone, Copy, Debug, PartialEq, Eq)]
 pub struct Part {
-    pub(crate) count: usize,
-    pub(crate) half: Option<u8>,
+    pub count: usize,
+    pub half: Option<u8>,
 }
 
 impl Model for Part {

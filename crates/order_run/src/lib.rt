@@ -47,11 +47,11 @@ impl Buffers {
 }
 
 // Where a run stands between two pieces: the desk, the phase, and the line that has no end yet.
-#[derive(Clone, Copy)]
+#[derive(Clone, Copy, Debug, PartialEq, Eq)]
 pub struct Run {
-    desk: Desk,
-    phase: Phase,
-    part: Part,
+    pub desk: Desk,
+    pub phase: Phase,
+    pub part: Part,
 }
 
 impl Model for Run {
@@ -68,7 +68,7 @@ impl Model for Run {
 }
 
 // The run after a piece, and how many characters to print stand at the front of the output.
-#[derive(Clone, Copy)]
+#[derive(Clone, Copy, Debug, PartialEq, Eq)]
 pub struct Fed {
     pub run: Run,
     pub printed: usize,

@@ -15,7 +15,7 @@ use wire::refusal::Refusal;
 const SEAT: u8 = 0;
 
 // A run awaits its entry, awaits a reply, or is over.
-#[derive(Clone, Copy)]
+#[derive(Clone, Copy, Debug, PartialEq, Eq)]
 pub enum Phase {
     Entry,
     Reply,
@@ -37,7 +37,7 @@ impl Phase {
 }
 
 // The run after a line: its desk, its phase, and the place behind what it has printed.
-#[derive(Clone, Copy)]
+#[derive(Clone, Copy, Debug, PartialEq, Eq)]
 pub struct Turn {
     pub desk: Desk,
     pub phase: Phase,
