@@ -2,6 +2,9 @@
 // followed by a line `=`. tools/cases/orders writes both files. A test program: its lines are compared.
 #![tactic(auto)]
 
+ghost use Rattle.std.specs.Prelude.{IfOk};
+ghost use Rattle.order_run.specs.Run.{Going};
+
 use order_run::{Buffers, Run};
 use std::io;
 use std::io::{Read, Write};
@@ -9,7 +12,9 @@ use std::io::{Read, Write};
 const PIECE: u64 = 4096;
 
 // The order ends, and a new run begins. What the order left in the buffers stays there, and is never printed.
-fn renewed(output: &mut impl Write, run: Run, buffers: &mut Buffers) -> io::Result<Run> {
+fn renewed(output: &mut impl Write, run: Run, buffers: &mut Buffers) -> io::Result<Run>
+    ensures { IfOk result Going }
+{
     order_io::ended(output, run, buffers)?;
     output.write_all(b"=\n")?;
     Ok(Run::start())
@@ -20,7 +25,9 @@ fn orders(
     first: Run,
     text: &[u8],
     buffers: &mut Buffers,
-) -> io::Result<Run> {
+) -> io::Result<Run>
+    ensures { IfOk result Going }
+{
     let mut run = first;
     let mut rest = text;
     // a `for` over `split` was tried, and gets no proof: the check makes no type of its iterator in a function over `impl Write`

@@ -4,13 +4,14 @@ use Rattle.std.specs.Prelude.{◌≡◌, List, ℕ}
 use Rattle.wire.specs.Store.{laid}
 use Rattle.wire.specs.Words.{One}
 use Rattle.order_run.specs.Feed.{Did, run_of}
-use Rattle.order_run.specs.Run.{Run}
+use Rattle.order_run.specs.Run.{Run, Going}
 
 pub record Shows (x : Did) (r : Run) (frame kept out out' : List ℕ) : Type 0 where
   pub told : r ≡ run_of x.st
   pub framed : frame ≡ x.st.frame
   pub stored : kept ≡ x.st.kept
   pub printed : out' ≡ laid out 0 x.text
+  pub going : Going r
 
 -- "that no second answer satisfies it is shown": one run, one frame, one data buffer, one output
 abbrev pub Unique : Type 0

@@ -2,6 +2,7 @@
 #![tactic(auto)]
 
 ghost use Rattle.std.specs.Prelude.{◌≡◌, take, IfOk, OnErr};
+ghost use Rattle.order_run.specs.Run.{Going};
 ghost use Rattle.order_run.specs.Feed.{st_in, after, finished};
 ghost use Rattle.order_io.specs.Shown.{Shows, Leaves};
 
@@ -44,7 +45,9 @@ fn turn(
     run: Run,
     piece: &mut [u8],
     buffers: &mut Buffers,
-) -> io::Result<Run> {
+) -> io::Result<Run>
+    ensures { IfOk result Going }
+{
     let n = input.read(piece)?;
     if n == 0 {
         return ended(output, run, buffers);
@@ -60,7 +63,9 @@ pub fn turns(
     output: &mut impl Write,
     piece: &mut [u8],
     buffers: &mut Buffers,
-) -> io::Result<Run> {
+) -> io::Result<Run>
+    ensures { IfOk result Going }
+{
     let mut run = Run::start();
     for _ in 0..u64::MAX {
         run = turn(input, output, run, piece, buffers)?;

@@ -21,8 +21,8 @@ use Rattle.order_text.proofs.Digits.{byte_digits}
 use Rattle.order_text.proofs.Lines.{digit_at, byte_turn}
 use Rattle.order_run.specs.Turns.{is_over, failed, after_frame, kept_frame}
 use Rattle.order_run.specs.Part.{Part, part, nothing, Begun}
-use Rattle.order_run.specs.Feed.{further, St, st, Did, behind, end_said, end_kept, ended, stopped, fails, put, after_char, after, Whole, Starts}
-use Rattle.order_run.proofs.Parts.{some_is, fails_room, fails_not, fails_digit, put_first, put_second}
+use Rattle.order_run.specs.Feed.{further, put_part, St, st, Did, behind, end_said, end_kept, ended, stopped, fails, put, after_char, after, Whole, Starts}
+use Rattle.order_run.proofs.Parts.{none≢some, some_is, fails_room, fails_not, fails_digit, put_first, put_second}
 use Rattle.order_run.specs.declared.turns.Phase.{Phase}
 use Rattle.order_run.specs.declared.turns.Phase.TheVariants.{Entry}
 
@@ -37,10 +37,17 @@ module _ (s : St) where
   unfolding end_said end_kept
   end_odd e = (sym (rw e), sym (rw e))
 
+pub nothing_begun : Begun nothing
+nothing_begun = record { room = omega arith; digit = λ h e. none≢some e }
+
 pub started : (d : Desk) (p : Part) → Fresh first_counter d → p ≡ nothing → Starts (record { desk = d; phase = Entry; part = p })
 started d p F e =
-    ap (λ (x : Desk). record { desk = x; phase = Entry; part = p }) F.empty
-    ∙ ap (λ (x : Part). record { desk = empty_at 1; phase = Entry; part = x }) e
+    record {
+      told =
+          ap (λ (x : Desk). record { desk = x; phase = Entry; part = p }) F.empty
+          ∙ ap (λ (x : Part). record { desk = empty_at 1; phase = Entry; part = x }) e;
+      going = record { good = F.good; begun = rw e nothing_begun };
+    }
 
 -- ---- what a character does
 
@@ -98,6 +105,19 @@ begun_first {p} c b f e =
     let d = put_digit p c f in
     let r = leb-false 1486 p.count (sym (fails_room p c d e) ∙ f) in
     record { room = b.room; digit = λ h z. (rw (some_is z) at d, r) }
+
+pub begun_put : (p : Part) (c : ℕ) (f : List ℕ) → Begun p → fails p c ≡ false → Begun (put_part p (digit_of c))
+begun_put p c f b e = go p.half refl
+  where
+    go : (x : Option ℕ) → p.half ≡ x → Begun (put_part p (digit_of c))
+    go None h = rw (← (put_first p (digit_of c) f h).0) (begun_first c b e h)
+    go (Some high) h =
+        let l = (b.digit high h).1 in
+        rw (← (put_second p (digit_of c) f high h).0) (record { room = omega arith; digit = λ g z. none≢some z })
+
+pub begun_further : (p : Part) (r : ℕ) → Begun p → p.count + r ≤ 1486 → (0 < r → p.half ≡ None) → Begun (further p r)
+begun_further p zero b h e = record { room = h; digit = λ high q. ((b.digit high q).0, omega (arith, (b.digit high q).1)) }
+begun_further p (suc r) b h e = record { room = h; digit = λ high q. none≢some (sym (e (omega arith)) ∙ q) }
 
 -- ---- whole bytes, two digits at a time
 

@@ -15,10 +15,10 @@ use Rattle.wire.proofs.Cases.{by}
 use Rattle.order_run.specs.Turns.{is_entry, is_over, Said, after_all, turn_of, Turned}
 use Rattle.order_run.specs.Part.{Part, nothing}
 use Rattle.order_run.specs.Feed.{St, Did, behind, read, after, begun, line_ended, closed, finished, st_of, Feeds}
-use Rattle.order_run.specs.Run.{Run}
+use Rattle.order_run.specs.Run.{Run, Going}
 use Rattle.order_run.specs.declared.turns.Turn.{Turn}
 use Rattle.order_run.specs.declared.Fed.{Fed}
-use Rattle.order_run.proofs.Characters.{still}
+use Rattle.order_run.proofs.Characters.{nothing_begun, still}
 use Rattle.order_run.specs.declared.turns.Phase.{Phase}
 
 pub feeds_within : {x : Did} {n m : ℕ} {r : Fed} {f k o o' : List ℕ} → n ≤ m → Feeds x n r f k o o' → Feeds x m r f k o o'
@@ -28,6 +28,7 @@ feeds_within h F =
       framed = F.framed;
       stored = F.stored;
       printed = F.printed;
+      going = F.going;
       short = λ g. omega (arith, F.short g);
     }
 
@@ -49,11 +50,11 @@ module _ (s : St) where
   unfolding line_ended
   ended_before e = sym (rw e)
 
-pub nothing_fed : (r : Run) (f k o : List ℕ) → begun r.part ≡ false
+pub nothing_fed : (r : Run) (f k o : List ℕ) → Going r → begun r.part ≡ false
     → Feeds (line_ended (st_of r f k)) 4096 (record { run = r; printed = 0 }) f k o o
-nothing_fed r f k o e =
+nothing_fed r f k o g e =
     rw (← ended_before (st_of r f k) e)
-    (record { told = refl; framed = refl; stored = refl; printed = laid_nil o 0; short = λ n. omega arith })
+    (record { told = refl; framed = refl; stored = refl; printed = laid_nil o 0; going = g; short = λ n. omega arith })
 
 all_over : (p : Phase) (d : Desk) → is_over (after_all p d).phase ≡ true
 unfolding after_all
@@ -104,5 +105,6 @@ module _ (s : St) {r : Fed} {f k o o₁ : List ℕ} (F : Feeds (line_ended s) 40
             ∙ ap (λ (y : List ℕ). laid y r.printed a.text) F.printed
             ∙ ap (λ (y : ℕ). laid (laid o 0 x.text) y a.text) j
             ∙ laid_join o 0 x.text a.text (omega (arith, T.fits, n, l));
+        going = record { good = T.good; begun = rw z nothing_begun };
         short = λ v. absurd (true≢false (sym (all_over q.phase q.desk) ∙ v));
       })

@@ -14,11 +14,11 @@ use Rattle.desk.specs.Record.{Good}
 use Rattle.desk.specs.declared.Desk.{Desk}
 use Rattle.order_text.specs.Digits.{digit_of}
 use Rattle.order_run.specs.Turns.{is_over, Said, failed, Turned}
-use Rattle.order_run.specs.Part.{Part, nothing}
+use Rattle.order_run.specs.Part.{Part, nothing, Begun}
 use Rattle.order_run.specs.Feed.{further, St, st, Did, behind, stopped, end_said, end_kept, ended, fails, put_part, put_frame, after, Whole, Feeds, run_of}
 use Rattle.order_run.specs.declared.turns.Turn.{Turn}
 use Rattle.order_run.specs.declared.Fed.{Fed}
-use Rattle.order_run.proofs.Characters.{still, after_over, after_none, after_line_lem, after_put, after_bad, after_whole}
+use Rattle.order_run.proofs.Characters.{nothing_begun, begun_put, begun_further, still, after_over, after_none, after_line_lem, after_put, after_bad, after_whole}
 use Rattle.order_run.specs.declared.turns.Phase.{Phase}
 use Rattle.order_run.specs.declared.turns.Phase.TheVariants.{Over}
 
@@ -27,6 +27,7 @@ pub record Digits (t k : List ℕ) (d₁ : Desk) (ph₁ : Phase) (p₁ : Part) (
   pub within : i ≤ length t
   pub onward : i₁ ≤ i
   pub good : Good d
+  pub begun : Begun p
   pub going : is_over ph ≡ false
   pub long : length f ≡ 1486
   pub desk : d ≡ d₁
@@ -40,6 +41,7 @@ pub record Digits (t k : List ℕ) (d₁ : Desk) (ph₁ : Phase) (p₁ : Part) (
 pub record Lines (t : List ℕ) (s₁ : St) (o₁ : List ℕ) (s : St) (o : List ℕ) (n i : ℕ) : Type 0 where
   pub within : i ≤ length t
   pub good : Good s.desk
+  pub begun : Begun s.part
   pub long : length s.frame ≡ 1486
   pub keeps : length s.kept ≡ 4096
   pub outs : (length o ≡ 143363) × (length o₁ ≡ 143363)
@@ -49,12 +51,13 @@ pub record Lines (t : List ℕ) (s₁ : St) (o₁ : List ℕ) (s : St) (o : List
   pub short : is_over s.phase ≡ false → length text ≤ 33 * i
   pub goes : after s₁ t ≡ behind text (after s (drop i t))
 
-pub lines_start : (t : List ℕ) (s : St) (o : List ℕ) → Good s.desk → length s.frame ≡ 1486 → length s.kept ≡ 4096
+pub lines_start : (t : List ℕ) (s : St) (o : List ℕ) → Good s.desk → Begun s.part → length s.frame ≡ 1486 → length s.kept ≡ 4096
     → length o ≡ 143363 → Lines t s o s o 0 0
-lines_start t s o G l k h =
+lines_start t s o G B l k h =
     record {
       within = omega arith;
       good = G;
+      begun = B;
       long = l;
       keeps = k;
       outs = (h, h);
@@ -76,6 +79,7 @@ module _ {t : List ℕ} {s₁ : St} {o₁ : List ℕ} {d : Desk} {ph : Phase} {p
         within = L.within;
         onward = omega arith;
         good = L.good;
+        begun = L.begun;
         going = g;
         long = L.long;
         desk = refl;
@@ -93,6 +97,7 @@ module _ {t : List ℕ} {s₁ : St} {o₁ : List ℕ} {d : Desk} {ph : Phase} {p
       record {
         within = D.within;
         good = D.good;
+        begun = D.begun;
         long = D.long;
         keeps = L.keeps;
         outs = (ap length D.out ∙ L.outs.0, L.outs.1);
@@ -106,14 +111,15 @@ module _ {t : List ℕ} {s₁ : St} {o₁ : List ℕ} {d : Desk} {ph : Phase} {p
 module _ {t k : List ℕ} {d₁ : Desk} {ph₁ : Phase} {p₁ : Part} {f₁ o₁ : List ℕ} {n₁ i₁ : ℕ} {d : Desk} {ph : Phase} {p : Part} {f o : List ℕ} {n i : ℕ}
     (D : Digits t k d₁ ph₁ p₁ f₁ o₁ n₁ i₁ d ph p f o n i) where
   -- some characters further on in the line
-  digits_on : {p₂ : Part} {f₂ : List ℕ} {j : ℕ} → i ≤ j → j ≤ length t → length f₂ ≡ 1486
+  digits_on : {p₂ : Part} {f₂ : List ℕ} {j : ℕ} → i ≤ j → j ≤ length t → Begun p₂ → length f₂ ≡ 1486
       → after (st d ph p f k) (drop i t) ≡ after (st d ph p₂ f₂ k) (drop j t)
       → Digits t k d₁ ph₁ p₁ f₁ o₁ n₁ i₁ d ph p₂ f₂ o n j
-  digits_on m w l e =
+  digits_on m w b l e =
       record {
         within = w;
         onward = omega (arith, D.onward);
         good = D.good;
+        begun = b;
         going = D.going;
         long = l;
         desk = D.desk;
@@ -129,7 +135,7 @@ module _ {t k : List ℕ} {d₁ : Desk} {ph₁ : Phase} {p₁ : Part} {f₁ o₁
       → Digits t k d₁ ph₁ p₁ f₁ o₁ n₁ i₁ d ph p₂ f₂ o n (i + 1)
   digits_put {p₂} {f₂} h z e a b l =
       let c = get_or t i 0 in
-      digits_on (omega arith) (omega arith) l
+      digits_on (omega arith) (omega arith) (rw a (begun_put p c f D.begun e)) l
       (ap (after (st d ph p f k)) (at t i h)
       ∙ after_put (st d ph p f k) (drop (i + 1) t) D.going c z e
       ∙ ap (λ (x : St). after x (drop (i + 1) t)) (λ j. st d ph (sym a j) (sym b j) k))
@@ -137,7 +143,7 @@ module _ {t k : List ℕ} {d₁ : Desk} {ph₁ : Phase} {p₁ : Part} {f₁ o₁
   pub digits_whole : {p₂ : Part} {f₂ : List ℕ} {m : ℕ} → Whole (drop i t) p.count f m f₂ → (0 < m → p.half ≡ None) → length f₂ ≡ 1486
       → p₂ ≡ further p m → Digits t k d₁ ph₁ p₁ f₁ o₁ n₁ i₁ d ph p₂ f₂ o n (i + 2 * m)
   digits_whole {p₂} {f₂} {m} w g l r =
-      digits_on (omega arith) (omega (arith, w.there, length-drop i t, D.within)) l
+      digits_on (omega arith) (omega (arith, w.there, length-drop i t, D.within)) (rw r (begun_further p m D.begun w.room g)) l
       (after_whole d ph k D.going p f (drop i t) m f₂ D.long w g
       ∙ ap (λ (x : Part). after (st d ph x f₂ k) (drop (2 * m) (drop i t))) (sym r)
       ∙ ap (after (st d ph p₂ f₂ k)) (drop-drop (2 * m) i t))
@@ -164,6 +170,7 @@ module _ {t : List ℕ} {s₁ : St} {o₁ : List ℕ} {s : St} {o : List ℕ} {n
       record {
         within = omega arith;
         good = T.good;
+        begun = rw z nothing_begun;
         long = L.long;
         keeps = l ∙ L.keeps;
         outs = (m ∙ L.outs.0, L.outs.1);
@@ -190,6 +197,7 @@ module _ {t : List ℕ} {s₁ : St} {o₁ : List ℕ} {s : St} {o : List ℕ} {n
         framed = refl;
         stored = refl;
         printed = L.out;
+        going = record { good = L.good; begun = L.begun };
         short = λ g. omega (arith, L.short g, L.within);
       })
 
@@ -216,6 +224,7 @@ module _ {t : List ℕ} {s₁ : St} {o₁ : List ℕ} {s : St} {o : List ℕ} {n
         framed = refl;
         stored = refl;
         printed = printed_more x r o' T;
+        going = record { good = T.good; begun = rw q nothing_begun };
         short = λ v. absurd (true≢false v);
       })
 

@@ -4,7 +4,7 @@ use Rattle.order_run.specs.One.{Unique}
 
 pub unique : Unique
 unique = record {
-  starts = λ a b p q. one a b p q;
+  starts = λ a b p q. one a b p.told q.told;
   feeds = λ x n out a b p q. λ i. (
     one a.0 b.0 p.told q.told i,
     one a.1 b.1 p.framed q.framed i,

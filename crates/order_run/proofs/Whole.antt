@@ -307,6 +307,6 @@ pub as_printed : AsPrinted
 unfolding printed
 as_printed r S f l ps =
     let s = st (empty_at 1) Entry nothing f (replicate 4096 0) in
-    ap (λ (x : Run). in_pieces (st_of x f (replicate 4096 0)) ps) S
+    ap (λ (x : Run). in_pieces (st_of x f (replicate 4096 0)) ps) S.told
     ∙ pieces ps s
     ∙ by_lines (joined ps) s l (whole [] refl (no_pairs f))

@@ -13,7 +13,7 @@ use Rattle.order_run.specs.Printed.{printed}
 use Rattle.order_run.specs.Part.{Part, part, nothing}
 use Rattle.order_run.specs.declared.turns.Phase.{Phase}
 use Rattle.order_run.specs.declared.turns.Phase.TheVariants.{Entry}
-use Rattle.order_run.specs.Run.{Run}
+use Rattle.order_run.specs.Run.{Run, Going}
 use Rattle.order_run.specs.declared.Fed.{Fed}
 use Rattle.order_run.specs.declared.Buffers.{Buffers}
 
@@ -121,8 +121,9 @@ pub record Whole (t : List ℕ) (at : ℕ) (f : List ℕ) (r : ℕ) (f' : List �
   pub stored : f' ≡ paste f at (bytes_of t) r
 
 -- a fresh run
-abbrev pub Starts : Run → Type 0
-Starts r = r ≡ record { desk = empty_at 1; phase = Entry; part = nothing }
+pub record Starts (r : Run) : Type 0 where
+  pub told : r ≡ record { desk = empty_at 1; phase = Entry; part = nothing }
+  pub going : Going r
 
 abbrev pub st_of : Run → List ℕ → List ℕ → St
 st_of r frame kept = st r.desk r.phase r.part frame kept
@@ -139,6 +140,7 @@ pub record Feeds (x : Did) (n : ℕ) (r : Fed) (frame kept out out' : List ℕ) 
   pub framed : frame ≡ x.st.frame
   pub stored : kept ≡ x.st.kept
   pub printed : out' ≡ laid out 0 x.text
+  pub going : Going r.run
   pub short : is_over x.st.phase ≡ false → length x.text ≤ 33 * n
 
 -- ---- the whole program

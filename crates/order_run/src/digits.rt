@@ -28,7 +28,8 @@ impl Model for Part {
     ghost inverse = { λ p. record { count = p.count; half = p.half } };
 }
 
-// The bytes that the text begins with, as far as they have room; answers how many. By places, as order_text::store stores, and for its reason.
+// The bytes that the text begins with, as far as they have room; answers how many. By places: the place of the first two characters that
+// make no byte is the answer.
 fn pairs(table: &DigitTable, text: &[u8], frame: &mut [u8], at: usize) -> usize
     requires at_bound { at ≤ 1486 }
     requires frame_len { length frame.old ≡ 1486 }

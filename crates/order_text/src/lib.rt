@@ -95,8 +95,8 @@ pub fn decode(line: &[u8], frame: &mut [u8]) -> Option<usize>
     Some(count)
 }
 
-// The text of as many bytes as have room, at the front of `out`. Answers its length. By places, as in store: of chunks_mut a proof
-// knows the length alone.
+// The text of as many bytes as have room, at the front of `out`. Answers its length. By places: of chunks_mut a proof knows the
+// length alone.
 pub fn encode(bytes: &[u8], out: &mut [u8]) -> usize
     ensures { (result ≡ length (text_in (length out.old) bytes.now)) × (out.new ≡ laid out.old 0 (text_in (length out.old) bytes.now)) }
 {
