@@ -153,9 +153,19 @@ impl Desk {
         requires { IfOk decided Within }
         ensures { (result ≡ (called_by decided self.old).answer) × (self.new ≡ (called_by decided self.old).desk) }
     {
-        match decided {
+        let told = match decided {
             Ok(change) => change.apply(self),
             Err(refusal) => judge::plain(refusal.number()),
+        };
+        // Field by field: of an answer that is handed on whole the compiler keeps the bytes behind the number in memory, and copies them at each
+        // return.
+        Answer {
+            number: told.number,
+            sub: told.sub,
+            index: told.index,
+            code: told.code,
+            length: told.length,
+            data: told.data,
         }
     }
 
