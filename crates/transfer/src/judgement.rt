@@ -9,7 +9,9 @@ use judge::Verdict;
 use wire::refusal::Refusal;
 
 impl Reply {
-    // sum: of the earlier chunks; n: the data buffer's length.
+    // sum: of the earlier chunks; n: the data buffer's length. A hint to the compiler: called, it takes what is due and hands the verdict on
+    // in memory, and a segment takes some thirty instructions more.
+    #[inline(always)]
     #[tactic(auto, unfolding(crate::specs::Judgement::judge_reply))]
     pub fn judge(self, s: &[u8], sum: u32, n: u32) -> Verdict
         ensures { result ≡ judge_reply self sum n s.now }
