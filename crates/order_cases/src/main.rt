@@ -50,7 +50,10 @@ fn pieces(
     for _ in 0..1024 {
         piece.clear();
         input.by_ref().take(PIECE).read_to_end(piece)?;
-        run = orders(output, run, piece, buffers)?;
+        // behind the end of the input nothing is fed: `feed` makes its table of digits at each call
+        if !piece.is_empty() {
+            run = orders(output, run, piece, buffers)?;
+        }
     }
     Ok(())
 }
