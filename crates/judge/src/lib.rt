@@ -27,7 +27,7 @@ pub use upload::judge_upload;
 #[derive(Clone, Copy, Debug, PartialEq, Eq)]
 pub enum Verdict {
     // A number, so that what is promised of a refused verdict is promised of any. Not a Result around the rest: a segment of 1,486 bytes takes
-    // some thirty instructions more then, and more than plain Rust (docs/SPEED.md).
+    // some thirty instructions more then (docs/SPEED.md).
     Refused(u8),
     // Its eight bytes as one number. With its fields apart, or an abort's in another order, each judge is more than the compiler puts into
     // its callers, and every reply takes some forty instructions more.

@@ -10,7 +10,7 @@ use wire::refusal::Refusal;
 
 impl Reply {
     // sum: of the earlier chunks; n: the data buffer's length. A hint to the compiler: called, it takes what is due and hands the verdict on
-    // in memory, and a segment takes some thirty instructions more.
+    // in memory, and a segment takes some forty instructions more.
     #[inline(always)]
     #[tactic(auto, unfolding(crate::specs::Judgement::judge_reply))]
     pub fn judge(self, s: &[u8], sum: u32, n: u32) -> Verdict
